@@ -1,0 +1,6 @@
+pub mod Steps
+pub mod Onto
+pub mod Numbers
+pub mod Printing
+pub mod Range
+pub mod Lines

@@ -1,0 +1,6 @@
+pub mod Tokens
+pub mod Parts
+pub mod Sizes
+pub mod Bodies
+pub mod Counts
+pub mod Outcomes

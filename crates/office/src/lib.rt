@@ -1,0 +1,24 @@
+// The one function that the office's order form, a C program, calls: whether a line is a well formed order.
+ghost use mathlib.Core.Logic.{_⊎_};
+ghost use Prim.Native.Nat.{ℕ, _≤_};
+ghost use Rattle.office.specs.Verdict.{Verdict, One-verdict};
+use orderlines::check_order;
+
+// 0 for an order line whose numbers are all in range; else the number of the refusal times a million, and its place. The line
+// comes without a line feed at its end.
+#[unsafe(no_mangle)]
+pub extern "C" fn sinkerred_order_form(line: &[u8]) -> u32
+    ensures verdict { λ r. ⌜ Verdict (now (line .entry)) r ⌝ }
+    ensures greatest { λ r. ⌜ r ≤ 18065536 ⌝ }
+{
+    match check_order(line) {
+        Ok(_) => 0,
+        Err(fault) => fault.refusal.number() * 1_000_000 + fault.place as u32,
+    }
+}
+
+// A line has one verdict only.
+pub fn line_has_one_verdict()
+    ensures { λ _. ⌜ One-verdict ⌝ }
+{
+}

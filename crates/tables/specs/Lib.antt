@@ -1,0 +1,4 @@
+pub mod Judging
+pub mod Kind
+pub mod Tables
+pub mod Contents
