@@ -4,3 +4,4 @@ pub mod Numbers
 pub mod Printing
 pub mod Range
 pub mod Lines
+pub mod Places

@@ -17,7 +17,7 @@ use Rattle.tables.specs.Tables.{Counted, VerticesCounted, CellsCounted, Replace
 use Rattle.tables.specs.declared.contents.Places.{Places}
 use Rattle.tables.specs.declared.kind.CellKind.{CellKind}
 use Rattle.tables.specs.declared.kind.CellKind.the-variants.{Segment, Triangle}
-use Rattle.hierarchylines.specs.Line.{Hierarchy, Replacement, Shaped, Made, made-corners, records, all-taken, made-count, taken-count, contents-of, tables-of}
+use Rattle.hierarchypass.specs.Line.{Hierarchy, Replacement, Shaped, Made, made-corners, records, all-taken, made-count, taken-count, contents-of, tables-of}
 
 flat-long : (n : ℕ) (x : List (List ℤ)) → All (Long n) x → length (flat x) ≡ n * length x
 flat-long n [] h = sym (mul-zero n)

@@ -1,6 +1,3 @@
 pub mod Tokens
-pub mod Parts
-pub mod Sizes
-pub mod Bodies
 pub mod Counts
 pub mod Outcomes

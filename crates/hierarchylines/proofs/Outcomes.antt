@@ -22,9 +22,9 @@ use Rattle.tables.specs.Tables.{Counted, VerticesCounted, CellsCounted, Replace
 use Rattle.tables.specs.declared.contents.Contents.{Contents}
 use Rattle.tables.specs.declared.contents.Places.{Places}
 use Rattle.tables.proofs.First.{first-once, first-or-clear}
-use Rattle.hierarchylines.specs.Line.{Hierarchy, hierarchy, LineOf, Shaped, tables-of, contents-of}
-use Rattle.hierarchylines.specs.Passing.{Fillings, fillings, with-tables, LinePassed, LineHolds}
-use Rattle.hierarchylines.specs.Reading.{Lists, lists, places-of, all-written, CountedIn, HierarchyRead, HierarchyOffLimits, HierarchyReading, Hierarchy-read-once}
+use Rattle.hierarchypass.specs.Line.{Hierarchy, hierarchy, LineOf, Shaped, tables-of, contents-of}
+use Rattle.hierarchypass.specs.Passing.{Fillings, fillings, with-tables, LinePassed}
+use Rattle.hierarchylines.specs.Reading.{LineHolds, Lists, lists, places-of, all-written, CountedIn, HierarchyRead, HierarchyOffLimits, HierarchyReading, Hierarchy-read-once}
 use Rattle.hierarchylines.proofs.Counts.{counted, fits}
 use Rattle.hierarchylines.proofs.Tokens.{one-hierarchy}
 

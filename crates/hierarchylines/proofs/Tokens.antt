@@ -11,7 +11,7 @@ use Rattle.forms.proofs.Printing.{Sharp, single-sharp, row-sharp, array-sharp, 
 use Rattle.tables.specs.Kind.{corners-of}
 use Rattle.tables.specs.declared.kind.CellKind.{CellKind}
 use Rattle.tables.specs.declared.kind.CellKind.the-variants.{Segment, Triangle}
-use Rattle.hierarchylines.specs.Line.{Hierarchy, Replacement, LineOf, replacement-tokens, body-tokens, tokens}
+use Rattle.hierarchypass.specs.Line.{Hierarchy, Replacement, LineOf, replacement-tokens, body-tokens, tokens}
 
 after-comma : (u v : List Token) → symbol 44 ∷ u ≡ symbol 44 ∷ v → u ≡ v
 after-comma u v h = cc

@@ -16,7 +16,14 @@ use Rattle.tables.specs.Kind.{corners-of}
 use Rattle.tables.specs.Tables.{Tables, Counted}
 use Rattle.tables.specs.declared.contents.Contents.{Contents}
 use Rattle.tables.specs.declared.contents.Places.{Places}
-use Rattle.hierarchylines.specs.Line.{Hierarchy, hierarchy, LineOf, Shaped, tables-of, contents-of}
+use Rattle.hierarchypass.specs.Line.{Hierarchy, hierarchy, LineOf, Shaped, tables-of, contents-of}
+
+-- the line says a hierarchy that has these contents
+pub record LineHolds (bs : List ℕ) (c : Contents) : Type 0 where
+  pub value : Hierarchy
+  pub says : LineOf bs value
+  pub shaped : Shaped value
+  pub contents : c ≡ contents-of value
 
 -- the four lent lists
 pub record Lists : Type 0 where

@@ -1,3 +1,2 @@
 pub mod Steps
 pub mod Lines
-pub mod Exits

@@ -1,4 +1,4 @@
-use Rattle.scanner.proofs.Exits.{passed-on}
+use Rattle.faults.proofs.Exits.{passed-on}
 use Rattle.arrays.proofs.Lists.{first-some, first-none, first-lost}
 use Rattle.arrays.proofs.entries.first.Needs as need
 

@@ -4,7 +4,7 @@ use mir.Val.{SFits}
 use borrow.Author.Needs.{needs}
 use lib.IntN.{ℤ}
 use Rattle.std.proofs.shelf.Signed.{toZ-ofZ}
-use Rattle.scanner.proofs.Exits.{passed-on}
+use Rattle.faults.proofs.Exits.{passed-on}
 use Rattle.arrays.specs.Sink.{filling, put}
 use Rattle.arrays.proofs.entries.keep_number.Needs as need
 

@@ -1,4 +1,4 @@
-use Rattle.scanner.proofs.Exits.{passed-on}
+use Rattle.faults.proofs.Exits.{passed-on}
 use Rattle.arrays.proofs.Lists.{next-some, next-none, next-lost, end-lost}
 use Rattle.arrays.proofs.entries.next.Needs as need
 

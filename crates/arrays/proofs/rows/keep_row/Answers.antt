@@ -3,7 +3,7 @@ use mathlib.Core.Path.{_≡_, refl}
 use Prim.Native.Nat.{suc, _+_, _-_, _≤_}
 use native.Mathlib.Omega.{arith}
 use Rattle.std.proofs.shelf.Results.{cases-weaker}
-use Rattle.scanner.proofs.Exits.{passed-on}
+use Rattle.faults.proofs.Exits.{passed-on}
 use Rattle.arrays.proofs.Columns.{row-none, row-more, row-unopened, row-lost, separator-lost, number-lost, row-unclosed, row-end}
 use Rattle.arrays.proofs.rows.keep_row.Needs as need
 

@@ -6,7 +6,7 @@ use lib.ListN.{length}
 use Rattle.forms.specs.Form.{_then_}
 use Rattle.forms.specs.Array.{row, inner, tail, row-tokens}
 use Rattle.scanner.specs.Scanner.{Step}
-use Rattle.scanner.proofs.Exits.{passed-on}
+use Rattle.faults.proofs.Exits.{passed-on}
 use Rattle.scanner.proofs.Steps.{lost-first, lost-after}
 use Rattle.arrays.specs.Sink.{filling, put-all, put-rows}
 use Rattle.arrays.specs.Listing.{lead, rest, Long, Rows, Listing}

@@ -1,7 +1,7 @@
 use mathlib.Core.Logic.{inl}
 use mathlib.Core.Path.{refl}
 use Rattle.forms.specs.Array.{listed, whole}
-use Rattle.scanner.proofs.Exits.{passed-on}
+use Rattle.faults.proofs.Exits.{passed-on}
 use Rattle.scanner.proofs.Lines.{line-lost, line-unfinished, line-says}
 use Rattle.orderlines.proofs.order.pass_order.Needs as need
 

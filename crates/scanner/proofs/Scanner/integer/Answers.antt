@@ -4,7 +4,7 @@ use Prim.Native.Nat.{ℕ, _+_}
 use native.Mathlib.Omega.{arith}
 use Rattle.forms.specs.Form.{Wrong}
 use Rattle.forms.proofs.Onto.{stuck, shuns-number}
-use Rattle.scanner.proofs.Exits.{passed-on}
+use Rattle.faults.proofs.Exits.{passed-on}
 use Rattle.forms.proofs.Numbers.{plain-numbered, minus-numbered, plain-cast, minus-cast, minus-stuck}
 use Rattle.scanner.proofs.Scanner.integer.Needs as need
 

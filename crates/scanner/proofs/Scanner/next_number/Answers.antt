@@ -9,7 +9,7 @@ use Rattle.forms.specs.Array.{blanks, whole}
 use Rattle.forms.specs.Range.{earlier, far}
 use Rattle.scanner.specs.Scanner.{Step}
 use Rattle.forms.specs.Form.{nothing, figure}
-use Rattle.scanner.proofs.Exits.{passed-on}
+use Rattle.faults.proofs.Exits.{passed-on}
 use Rattle.scanner.proofs.Steps.{lost-first, one-step}
 use Rattle.scanner.proofs.Scanner.next_number.Needs as need
 
