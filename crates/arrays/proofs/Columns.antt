@@ -11,7 +11,7 @@ use Rattle.std.proofs.shelf.Lists.{length-push}
 use Rattle.faults.specs.declared.Fault.{Fault}
 use Rattle.forms.specs.Form.{Form, nothing, _then_, Token, symbol}
 use Rattle.forms.specs.Array.{sign, whole, row, row-left, columns, parts, single}
-use Rattle.forms.specs.Progress.{onto, Clear, Apt}
+use Rattle.forms.specs.Progress.{onto, BlankFree, Apt}
 use Rattle.scanner.specs.Scanner.{Step, Passed, Missed, Lost}
 use Rattle.scanner.specs.declared.Scanner.{Scanner}
 use Rattle.scanner.proofs.Steps.{step-on, lost-after, lost-by, lost-first, lost-before, step-says, step-before, mark-step, mark-last, still}
@@ -23,7 +23,7 @@ left-apt : (m : ℕ) (K : Form) → Apt K → Apt (onto (row-left m) K)
 left-apt zero K apt = (refl, refl)
 left-apt (suc m) K apt = (refl, refl)
 
-columns-clear : (n : ℕ) (K : Form) → Apt K → Clear (onto (columns 0 n) K)
+columns-clear : (n : ℕ) (K : Form) → Apt K → BlankFree (onto (columns 0 n) K)
 columns-clear zero K apt = refl
 columns-clear (suc n) K apt = refl
 

@@ -42,7 +42,7 @@ pub record Listing {A S : Type 0} (P : A → Type 0) (print : A → List Token) 
   pub inside : s .at ≤ length (text r)
   pub kept : after ≡ puts keep values before
 
--- an entry comes next, or the array is at its end
+-- the array goes on, and an entry comes next after the comma before it; or the array is at its end, and its bracket is read
 abbrev pub Goes : Scanner → Scanner → Form → Form → List Token → Bool → Type 0
 Goes r s A F t true = Step r s A (F then tail F) t
 Goes r s A F t false = Step r s A nothing (symbol 93 ∷ [])

@@ -30,7 +30,7 @@ puts f (x ∷ xs) s = puts f xs (f x s)
 abbrev pub put-all : List ℤ → Filling → Filling
 put-all = puts put
 
--- the values stand in the first places, and the others are as they were
+-- the values stand in the first places, of which there are enough, and the others are as they were
 abbrev pub written : List ℤ → List ℤ → List ℤ
 written values before = values ++ drop (length values) before
 

@@ -1,4 +1,5 @@
-// Rows of so many numbers each, and arrays of rows: vertices, and the corners of cells.
+// Rows of so many numbers each, and arrays of rows: vertices, and the corners of cells. After a refusal the same holds as for arrays
+// of numbers.
 ghost use denote.Ref.{name};
 ghost use mathlib.Core.Path.{_≡_};
 ghost use Rattle.arrays.specs.Listing.{Separated, RowKept, RowsKept};
@@ -8,6 +9,7 @@ ghost use Rattle.scanner.specs.Scanner.{Lost};
 ghost use Rattle.std.specs.Results.{Cases};
 use crate::Sink;
 use crate::another;
+use crate::entries::is_first;
 use crate::keep_number;
 use faults::Fault;
 use scanner::Scanner;
@@ -16,7 +18,7 @@ use scanner::Scanner;
 fn separate(scanner: &mut Scanner<'_>, index: usize) -> Result<(), Fault>
     ensures { λ r. ⌜ Separated (now (scanner .entry)) (now (scanner .exit)) index r ⌝ }
 {
-    if index == 0 {
+    if is_first(index) {
         return Ok(());
     }
     scanner.pass(b',')

@@ -16,7 +16,7 @@ use Rattle.std.specs.declared.option.Option.the-variants.{Some, None}
 use Rattle.std.proofs.shelf.Lists.{take-at, length-take-le}
 use Rattle.forms.specs.Number.{Digit, Digits, Natural, denoted, Integer}
 use Rattle.forms.specs.Form.{Form, byte, number, _then_, _or_, many, figure, Item, item, Point, at, Times, Reads, Ends, Line, Viable, Wrong}
-use Rattle.forms.specs.Progress.{ahead, After, Shuns, Clean, NoDigit, Counted, Counting}
+use Rattle.forms.specs.Progress.{ahead, After, Shuns, DigitFree, NoDigit, DigitsRead, DigitsSoFar}
 use Rattle.forms.specs.Range.{clip}
 use Rattle.forms.specs.Progress.{is-digit}
 use Rattle.forms.proofs.Steps.{some-end, wrong-at, here, differ}
@@ -102,11 +102,11 @@ ahead-append [] v r a = a
 ahead-append (x ∷ u) v r a = refl
 
 -- what is next to a number that K follows is no digit
-after-clean : (K : Form) → Clean K → (m : Point) (n : ℕ) → Reads K m (at n [] []) → NoDigit (ahead (m .text))
+after-clean : (K : Form) → DigitFree K → (m : Point) (n : ℕ) → Reads K m (at n [] []) → NoDigit (ahead (m .text))
 after-clean K clean m n r d is a = shuns is-digit K clean d (digit-is d is) .never (m .index) (m .text) (m .items) a (n, r)
 
 module _ {L : Form} {bs : List ℕ} {i : ℕ} {e : List Item} where
-  pub number-on : {K : Form} (j : ℕ) (u : List ℕ) (z : ℤ) → Integer u z → Alone u z (ahead (drop j bs)) → Clean K → drop i bs ≡ u ++ drop j bs → j ≡ i + length u → After L bs i e (number then K) → After L bs j (e ++ item i (figure z) ∷ []) K
+  pub number-on : {K : Form} (j : ℕ) (u : List ℕ) (z : ℤ) → Integer u z → Alone u z (ahead (drop j bs)) → DigitFree K → drop i bs ≡ u ++ drop j bs → j ≡ i + length u → After L bs i e (number then K) → After L bs j (e ++ item i (figure z) ∷ []) K
   unfolding Alone
   number-on {K} j u z int alone clean rest reach h =
       let f = front-more bs u i j (h .within) rest reach in
@@ -166,7 +166,7 @@ denoted-push n [] b = refl
 denoted-push n (x ∷ ds) b = denoted-push (n * 10 + (x - 48)) ds b
 
 -- a zero, and nothing more of the number
-pub zero-counted : (bs : List ℕ) (i d limit : ℕ) → d ≡ 0 → ahead (drop i bs) ≡ Some (48 + d) → Counted bs i (i + 1) 0 limit
+pub zero-counted : (bs : List ℕ) (i d limit : ℕ) → d ≡ 0 → ahead (drop i bs) ≡ Some (48 + d) → DigitsRead bs i (i + 1) 0 limit
 zero-counted bs i d limit z a =
     record {
       digits = 48 ∷ [];
@@ -178,10 +178,10 @@ zero-counted bs i d limit z a =
     }
 
 -- before any more digits
-pub none-counting : (bs : List ℕ) (i first limit : ℕ) → first < limit → Counting bs i first i first limit
+pub none-counting : (bs : List ℕ) (i first limit : ℕ) → first < limit → DigitsSoFar bs i first i first limit
 none-counting bs i first limit h = record { more = []; are = tt; amount = omega arith; front = refl; reach = omega arith }
 
-pub counting-more : (bs : List ℕ) (i first j m d n limit : ℕ) → Counting bs i first j m limit → d < 10 → ahead (drop j bs) ≡ Some (48 + d) → n ≡ min (m * 10 + d) limit → Counting bs i first (j + 1) n limit
+pub counting-more : (bs : List ℕ) (i first j m d n limit : ℕ) → DigitsSoFar bs i first j m limit → d < 10 → ahead (drop j bs) ≡ Some (48 + d) → n ≡ min (m * 10 + d) limit → DigitsSoFar bs i first (j + 1) n limit
 counting-more bs i first j m d n limit h lt a is =
     record {
       more = h .more ++ (48 + d) ∷ [];
@@ -191,7 +191,7 @@ counting-more bs i first j m d n limit h lt a is =
       reach = omega (arith, h .reach, length-append (h .more) ((48 + d) ∷ []));
     }
 
-pub all-counted : (bs : List ℕ) (i first j m limit : ℕ) → Counting bs (i + 1) first j m limit → (first ≡ 0 → ⊥) → first < 10 → ahead (drop i bs) ≡ Some (48 + first) → NoDigit (ahead (drop j bs)) → Counted bs i j m limit
+pub all-counted : (bs : List ℕ) (i first j m limit : ℕ) → DigitsSoFar bs (i + 1) first j m limit → (first ≡ 0 → ⊥) → first < 10 → ahead (drop i bs) ≡ Some (48 + first) → NoDigit (ahead (drop j bs)) → DigitsRead bs i j m limit
 all-counted bs i first j m limit h some lt a none =
     let same : 0 * 10 + (48 + first - 48) ≡ first = omega arith in
     record {
@@ -207,9 +207,9 @@ all-counted bs i first j m limit h some lt a none =
 pub record Read (bs : List ℕ) (i j : ℕ) (v : ℤ) : Type 0 where
   pub denotes : ℤ
   pub clipped : clip denotes ≡ v
-  pub reads : (L K : Form) (e : List Item) → Clean K → After L bs i e (number then K) → After L bs j (e ++ item i (figure denotes) ∷ []) K
+  pub reads : (L K : Form) (e : List Item) → DigitFree K → After L bs i e (number then K) → After L bs j (e ++ item i (figure denotes) ∷ []) K
 
-pub plain-numbered : (bs : List ℕ) (i j m : ℕ) (v : ℤ) → Counted bs i j m 1000000000 → v ≡ pos m → Read bs i j v
+pub plain-numbered : (bs : List ℕ) (i j m : ℕ) (v : ℤ) → DigitsRead bs i j m 1000000000 → v ≡ pos m → Read bs i j v
 plain-numbered bs i j m v h is =
     record {
       denotes = pos (denoted 0 (h .digits));
@@ -221,7 +221,7 @@ clip-minus : (n : ℕ) → clip (negℤ (pos n)) ≡ negℤ (pos (min n 10000000
 clip-minus zero = refl
 clip-minus (suc n) = refl
 
-pub minus-numbered : (bs : List ℕ) (i j m : ℕ) (v : ℤ) → ahead (drop i bs) ≡ Some 45 → Counted bs (i + 1) j m 1000000000 → v ≡ negℤ (pos m) → Read bs i j v
+pub minus-numbered : (bs : List ℕ) (i j m : ℕ) (v : ℤ) → ahead (drop i bs) ≡ Some 45 → DigitsRead bs (i + 1) j m 1000000000 → v ≡ negℤ (pos m) → Read bs i j v
 minus-numbered bs i j m v a h is =
     record {
       denotes = negℤ (pos (denoted 0 (h .digits)));

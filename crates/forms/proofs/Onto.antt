@@ -14,7 +14,7 @@ use Rattle.std.proofs.str.Laws.{order}
 use Rattle.forms.specs.Number.{Digit, Digits, Natural, Integer}
 use Rattle.forms.specs.Form.{Form, nothing, byte, mark, number, _then_, _or_, many, Item, Point, at, Times, Reads, Ends, Wrong}
 use Rattle.forms.specs.Array.{blank, blanks, sign}
-use Rattle.forms.specs.Progress.{ahead, After, Shuns, Clear, Clean, onto, nullable, firsts, from, none, is-blank, is-digit, NoDigit, Blank, BlankNext}
+use Rattle.forms.specs.Progress.{ahead, After, Shuns, BlankFree, DigitFree, onto, nullable, firsts, from, none, is-blank, is-digit, NoDigit, Blank, BlankNext}
 use Rattle.forms.proofs.Steps.{narrow, many-split, fail, step, step-mark, mark-end, mark-out, byte-end, byte-out, differ}
 
 pub flat : (F K : Form) (s : Point) (n : ℕ) → Reads (F then K) s (at n [] []) → Reads (onto F K) s (at n [] [])
@@ -199,7 +199,7 @@ module _ {L : Form} {bs : List ℕ} {i : ℕ} {e : List Item} where
       (λ v o x. let y = unflat F nothing (at i v o) (x .0) (x .1) in (x .0, subst (λ (s : Point). Reads F (at i v o) s) (y .2) (y .1)))
       (λ v o a x. (x .0, flat F nothing (at i v o) (x .0) (at (x .0) [] [], x .1, refl)))
 
-  pub blank-on : {b : ℕ} {K : Form} → Clear K → Blank b → ahead (drop i bs) ≡ Some b → After L bs i e (blanks then K) → After L bs (i + 1) e (blanks then K)
+  pub blank-on : {b : ℕ} {K : Form} → BlankFree K → Blank b → ahead (drop i bs) ≡ Some b → After L bs i e (blanks then K) → After L bs (i + 1) e (blanks then K)
   blank-on {b} {K} clear is a h =
       ⊎-elim
       (λ e32. let n = a ∙ ap {B = Option ℕ} Some e32 in

@@ -2,7 +2,7 @@
 use mathlib.Core.List.{List, [], _∷_, _++_}
 use Prim.Native.Nat.{ℕ, zero, suc}
 use lib.IntN.{ℤ}
-use Rattle.forms.specs.Form.{Form, nothing, byte, mark, number, _then_, _or_, many, Token, figure, symbol}
+use Rattle.forms.specs.Form.{Form, byte, mark, number, _then_, _or_, many, Token, figure, symbol}
 
 -- white space in a line: space, tab and CR
 abbrev pub blank : Form
@@ -46,7 +46,8 @@ columns (suc i) m = row-left m
 abbrev pub row : ℕ → Form
 row n = sign 91 then columns 0 n
 
--- what an array of values says, where f gives what a value says
+-- What an array of values says, where f gives what a value says: first the values after the first, each after a comma; then all values;
+-- then the array with its brackets.
 abbrev pub among : {A : Type 0} → (A → List Token) → List A → List Token
 among f [] = []
 among f (x ∷ xs) = symbol 44 ∷ (f x ++ among f xs)

@@ -1,16 +1,17 @@
 -- Forms of text: a small language of what may stand where in a line, and its meaning. A form stands between two points of a
--- line; what the line says there are items: numbers, and the marks that show where its parts begin and end. Assumes nothing.
+-- line; what the line says there are items: its numbers, and the marks between them. Assumes nothing.
 use mathlib.Core.Path.{_≡_}
 use mathlib.Core.Logic.{_⊎_}
 use mathlib.Core.List.{List, [], _∷_, _++_}
-use Prim.Native.Nat.{ℕ, zero, suc, _+_, _≤_, _<_}
+use Prim.Native.Nat.{ℕ, zero, suc, _+_, _≤_}
 use lib.IntN.{ℤ}
 use lib.ListN.{length, take}
 use Rattle.forms.specs.Number.{Integer}
 
 infixr 30 _then_
 infixr 25 _or_
--- a byte that says nothing, a byte that says where the line's parts begin and end, a number; one after the other, either, none or more
+-- The language: nothing at all; a byte that says nothing; a mark, which is a byte that is reported as an item (a bracket, a comma, the
+-- digit of a kind); a number; one form after another; one or another; none or more of one.
 pub data Form : Type 0 where
   nothing : Form
   byte : ℕ → Form
@@ -67,7 +68,7 @@ Ends F i w o = (n : ℕ) × Reads F (at i w o) (at n [] [])
 abbrev pub Line : Form → List ℕ → List Item → Type 0
 Line F w o = Ends F 0 w o
 
--- w also begins some line of the form F
+-- w also begins some line of the form F, of any length
 abbrev pub Viable : Form → List ℕ → Type 0
 Viable F w = (v : List ℕ) × (o : List Item) × Line F (w ++ v) o
 

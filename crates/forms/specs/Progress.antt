@@ -1,25 +1,24 @@
 -- How far a line is read: what may still come, by the bytes that may come first. Contracts of the scanner speak in these words.
 -- Assumes nothing.
 use mathlib.Core.Path.{_≡_}
-use mathlib.Core.Bool.{Bool, true, false, cond, _&&_, _||_}
+use mathlib.Core.Bool.{Bool, true, false, cond}
 use mathlib.Core.Logic.{_⊎_}
 use mathlib.Core.List.{List, [], _∷_, _++_}
-use Prim.Native.Nat.{ℕ, zero, suc, _+_, _-_, _*_, _≤_, _<_, min}
+use Prim.Native.Nat.{ℕ, zero, suc, _+_, _≤_, min}
 use lib.Dec.{leb, eqb}
 use lib.ListN.{length, take, drop}
 use Rattle.std.specs.declared.option.Option.{Option}
 use Rattle.std.specs.declared.option.Option.the-variants.{Some, None}
 use Rattle.forms.specs.Number.{Digit, Digits, Natural, denoted}
-use Rattle.forms.specs.Form.{Form, nothing, byte, mark, number, _then_, _or_, many, Item, item, Ends, Line}
-use Rattle.forms.specs.Array.{blanks}
+use Rattle.forms.specs.Form.{Form, nothing, byte, mark, number, _then_, _or_, many, Item, Ends, Line}
 
 -- the byte that comes next
 abbrev pub ahead : List ℕ → Option ℕ
 ahead [] = None
 ahead (b ∷ w) = Some b
 
--- After the first i bytes of bs, with the items e among them, a line of the form L goes on by F,
--- if it goes on by the byte that bs has there.
+-- After the first i bytes of bs, with the items e among them, a line of the form L goes on by F, if it goes on by the byte that bs has
+-- there, or ends where bs ends.
 pub record After (L : Form) (bs : List ℕ) (i : ℕ) (e : List Item) (F : Form) : Type 0 where
   pub within : i ≤ length bs
   pub sound : (v : List ℕ) (o : List Item) → Ends F i v o → Line L (take i bs ++ v) (e ++ o)
@@ -72,19 +71,19 @@ abbrev pub is-digit : ℕ → Bool
 is-digit b = cond (leb 48 b) (leb b 57) false
 
 -- K begins with no space, tab or CR, and so can stand after them
-abbrev pub Clear : Form → Type 0
-Clear K = none is-blank (firsts K) ≡ true
+abbrev pub BlankFree : Form → Type 0
+BlankFree K = none is-blank (firsts K) ≡ true
 
 -- K begins with no digit, and so can stand after a number
-abbrev pub Clean : Form → Type 0
-Clean K = none is-digit (firsts K) ≡ true
+abbrev pub DigitFree : Form → Type 0
+DigitFree K = none is-digit (firsts K) ≡ true
 
 abbrev pub Apt : Form → Type 0
-Apt K = Clear K × Clean K
+Apt K = BlankFree K × DigitFree K
 
--- what can be an entry of an array
+-- what can be an entry of an array: it is not empty, and begins with no white space and not with ']'
 pub record Element (F : Form) : Type 0 where
-  pub clear : (K : Form) → Clear (onto F K)
+  pub clear : (K : Form) → BlankFree (onto F K)
   pub ends : (K : Form) → none (eqb 93) (firsts (onto F K)) ≡ true
 
 -- no text of the form F begins with c, or is empty where c is None
@@ -104,8 +103,8 @@ pub record BlankNext (w : List ℕ) : Type 0 where
 abbrev pub NoDigit : Option ℕ → Type 0
 NoDigit c = (d : ℕ) → Digit d → c ≡ Some d → ⊥
 
--- the digits of an integer, all that come, stand between i and j, and denote m, or more than m, the limit
-pub record Counted (bs : List ℕ) (i j m limit : ℕ) : Type 0 where
+-- the digits of an integer, all that come, stand between i and j, and m is what they denote, cut to the limit
+pub record DigitsRead (bs : List ℕ) (i j m limit : ℕ) : Type 0 where
   pub digits : List ℕ
   pub natural : Natural digits
   pub amount : m ≡ min (denoted 0 digits) limit
@@ -114,7 +113,7 @@ pub record Counted (bs : List ℕ) (i j m limit : ℕ) : Type 0 where
   pub all : (digits ≡ 48 ∷ []) ⊎ NoDigit (ahead (drop j bs))
 
 -- the same, on the way: after a first digit, more digits stand between i and j
-pub record Counting (bs : List ℕ) (i first j m limit : ℕ) : Type 0 where
+pub record DigitsSoFar (bs : List ℕ) (i first j m limit : ℕ) : Type 0 where
   pub more : List ℕ
   pub are : Digits more
   pub amount : m ≡ min (denoted first more) limit

@@ -8,6 +8,7 @@ use Rattle.std.specs.declared.option.Option.{Option}
 use Rattle.std.specs.declared.option.Option.the-variants.{Some, None}
 use Rattle.forms.specs.Form.{Item, Token, figure, symbol}
 
+-- a magnitude above 999,999,999
 abbrev pub beyond : ℤ → Bool
 beyond z = ltb 999999999 (natAbs z)
 
@@ -15,6 +16,7 @@ beyond z = ltb 999999999 (natAbs z)
 abbrev pub far : ℕ → ℤ → Option ℕ
 far p z = cond (beyond z) (Some p) None
 
+-- the same, of a token
 abbrev pub token-far : ℕ → Token → Option ℕ
 token-far p (figure z) = far p z
 token-far p (symbol b) = None
@@ -34,6 +36,7 @@ abbrev pub clip : ℤ → ℤ
 clip (pos n) = pos (min n 1000000000)
 clip (negsuc n) = negℤ (pos (min (suc n) 1000000000))
 
+-- what is kept of a token, and of an item: its number is cut
 abbrev pub seen : Token → Token
 seen (figure z) = figure (clip z)
 seen (symbol b) = symbol b

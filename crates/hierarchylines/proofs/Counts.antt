@@ -13,7 +13,7 @@ use Rattle.arrays.specs.Sink.{flat}
 use Rattle.arrays.specs.Listing.{Long}
 use Rattle.tables.specs.Contents.{Fit, VerticesFit, CellsFit, ReplacementsFit, TakenFit}
 use Rattle.tables.specs.Kind.{corners-of}
-use Rattle.tables.specs.Tables.{Counted, VerticesCounted, CellsCounted, ReplacementsCounted, TakenCounted, Natural, total, counts-taken, counts-made}
+use Rattle.tables.specs.Tables.{Counted, VerticesCounted, CellsCounted, ReplacementsCounted, TakenCounted, NotNegative, total, counts-taken, counts-made}
 use Rattle.tables.specs.declared.contents.Places.{Places}
 use Rattle.tables.specs.declared.kind.CellKind.{CellKind}
 use Rattle.tables.specs.declared.kind.CellKind.the-variants.{Segment, Triangle}
@@ -36,11 +36,11 @@ taken-long [] = refl
 taken-long (r ∷ rs) = length-append (r .taken) (all-taken rs) ∙ ap (λ (k : ℕ). length (r .taken) + k) (taken-long rs)
 
 -- the counts of the records
-naturals-made : (rs : List Replacement) → All Natural (counts-made (records rs))
+naturals-made : (rs : List Replacement) → All NotNegative (counts-made (records rs))
 naturals-made [] = tt
 naturals-made (r ∷ rs) = (omega (arith, ints), naturals-made rs)
 
-naturals-taken : (rs : List Replacement) → All Natural (counts-taken (records rs))
+naturals-taken : (rs : List Replacement) → All NotNegative (counts-taken (records rs))
 naturals-taken [] = tt
 naturals-taken (r ∷ rs) = (omega (arith, ints), naturals-taken rs)
 
@@ -114,6 +114,7 @@ module _ (h : Hierarchy) (s : Shaped h) (p : Places) where
       let same : x .cells ≡ length (h .base) + made-count (h .replacements) = pos-only (x .cells) _ (sym (x .adds-up) ∙ sum-is) in
       record {
         some-base = le-pos 1 (length (h .base)) (x .some-base);
+        base-cells = omega arith;
         most = omega (arith, same, x .most);
         room = subst (λ (n : ℕ). n ≤ p .corners) corners-are (x .room);
       }

@@ -56,9 +56,9 @@ stands k h before clear =
 
 module _ {bs : List ℕ} {n : Contents} (x : LineHolds bs n) (before : Lists) where
   -- a count that is off limits
-  pub off-limits : {f : Fault} → OffLimits n (places-of before) f → HierarchyOffLimits bs before f
-  off-limits {f} o =
-      let first = subst (λ (m : Contents). First 4 (Fit m (places-of before)) (f .place)) (x .contents) (o .first) in
+  pub off-limits : {p : Places} {f : Fault} → p ≡ places-of before → OffLimits n p f → HierarchyOffLimits bs before f
+  off-limits {p} {f} is o =
+      let first = subst (λ (m : Contents). First 4 (Fit m (places-of before)) (f .place)) (x .contents) (subst (λ (q : Places). First 4 (Fit n q) (f .place)) is (o .first)) in
       record {
         refusal = o .refusal;
         value = x .value;
@@ -72,10 +72,10 @@ module _ {bs : List ℕ} {n : Contents} (x : LineHolds bs n) (before : Lists) wh
       }
 
   -- the second pass over a line whose counts are right
-  pub second-pass : (after : Lists) (filled-to : Fillings) (r : Result Contents Fault) → Clear 4 (Fit n (places-of before)) → Cases r (LinePassed bs (unused before) filled-to) (Misread hierarchy bs) → after ≡ places-in filled-to → HierarchyReading bs before r after
-  second-pass after filled-to (Ok m) clear p e =
+  pub second-pass : (after : Lists) (filled-to : Fillings) (r : Result Contents Fault) (p : Places) → p ≡ places-of before → Clear 4 (Fit n p) → Cases r (LinePassed bs (unused before) filled-to) (Misread hierarchy bs) → after ≡ places-in filled-to → HierarchyReading bs before r after
+  second-pass after filled-to (Ok m) q is clear p e =
       let same : x .value ≡ p .value = one-hierarchy (x .value) (p .value) (x .says) (p .says) in
-      let clear′ : Clear 4 (CountedIn before (x .value)) = λ q lt. counted (x .value) (x .shaped) (places-of before) q (subst (λ (c : Contents). Fit c (places-of before) q) (x .contents) (clear q lt)) in
+      let clear′ : Clear 4 (CountedIn before (x .value)) = λ i lt. counted (x .value) (x .shaped) (places-of before) i (subst (λ (c : Contents). Fit c (places-of before) i) (x .contents) (subst (λ (k : Places). Fit n k i) is (clear i lt))) in
       let clear″ : Clear 4 (CountedIn before (p .value)) = subst (λ (h : Hierarchy). Clear 4 (CountedIn before h)) same clear′ in
       record {
         value = p .value;
@@ -85,7 +85,7 @@ module _ {bs : List ℕ} {n : Contents} (x : LineHolds bs n) (before : Lists) wh
         contents = p .contents;
         kept = e ∙ ap places-in (p .kept) ∙ stands (corners-of (p .value .kind)) (p .value) before clear″;
       }
-  second-pass after filled-to (Err f) clear p e = absurd (says-or-not (x .says) p)
+  second-pass after filled-to (Err f) q is clear p e = absurd (says-or-not (x .says) p)
 
 off-or-not : {bs : List ℕ} {before after : Lists} {n : Contents} {f : Fault} → HierarchyRead bs before after n → HierarchyOffLimits bs before f → ⊥
 off-or-not {bs} {before} {after} {n} {f} x y =

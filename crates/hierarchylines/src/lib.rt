@@ -1,8 +1,9 @@
 // Hierarchy lines, read whole: the kind of cells, and the tables of vertices, cells, replacements and taken numbers, into lent
 // lists. A line is judged to its last byte before anything is written. No call allocates.
+ghost use mathlib.Core.Path.{_≡_};
 ghost use Rattle.forms.specs.Line.{Misread};
 ghost use Rattle.hierarchypass.specs.Line.{hierarchy};
-ghost use Rattle.hierarchylines.specs.Reading.{lists, LineHolds, HierarchyReading, Hierarchy-read-once};
+ghost use Rattle.hierarchylines.specs.Reading.{lists, places-of, LineHolds, HierarchyReading, Hierarchy-read-once};
 ghost use Rattle.std.specs.Results.{Cases};
 use arrays::Sink;
 use faults::Fault;
@@ -43,6 +44,18 @@ fn check_hierarchy(line: &[u8]) -> Result<Contents, Fault>
     )
 }
 
+// How many places the four lists have.
+fn places_in(coordinates: &[i32], corners: &[i32], replacements: &[i32], taken: &[i32]) -> Places
+    ensures { λ r. ⌜ r ≡ places-of (lists (now (coordinates .entry)) (now (corners .entry)) (now (replacements .entry)) (now (taken .entry))) ⌝ }
+{
+    Places {
+        coordinates: coordinates.len(),
+        corners: corners.len(),
+        replacements: replacements.len(),
+        taken: taken.len(),
+    }
+}
+
 // Reads the tables of a hierarchy line into the first places of four lists, and answers how many entries they have.
 pub fn read_hierarchy(
     line: &[u8],
@@ -54,14 +67,8 @@ pub fn read_hierarchy(
     ensures { λ r. ⌜ HierarchyReading (now (line .entry)) (lists (now (coordinates .entry)) (now (corners .entry)) (now (replacements .entry)) (now (taken .entry))) r (lists (now (coordinates .exit)) (now (corners .exit)) (now (replacements .exit)) (now (taken .exit))) ⌝ }
 {
     let contents = check_hierarchy(line)?;
-    contents.judge(
-        &Places {
-            coordinates: coordinates.len(),
-            corners: corners.len(),
-            replacements: replacements.len(),
-            taken: taken.len(),
-        },
-    )?;
+    let places = places_in(coordinates, corners, replacements, taken);
+    contents.judge(&places)?;
     let mut vertices = Sink {
         places: coordinates,
         used: 0,

@@ -147,6 +147,9 @@ module _ (k : ℕ) {o a : Scanner} (p1 : Passed o a 44) where
                     kept = filled;
                   }
 
+pub with-contents : {kind : CellKind} {o h : Scanner} {before after : Fillings} {m n : Contents} → m ≡ n → BodyPassed kind o h before after n → BodyPassed kind o h before after m
+with-contents {kind} {o} {h} {before} {after} e x = subst (BodyPassed kind o h before after) (sym e) x
+
 -- the whole line
 abbrev opened : Form
 opened = sign 91 then kinds

@@ -82,11 +82,11 @@ module _ (k : ℕ) {o a : Scanner} (p1 : Passed o a 91) where
             pub end-lost : {f : Fault} → Missed g (sign 93) f → Lost o (replacement k) f
             end-lost z = back5 (lost-after (step-before (sign 93) (λ K apt. (refl, refl)) (q .step)) (lost-by z))
 
-            pub replaced : {h : Scanner} {r2 r3 : Filling} → Passed g h 93 → r2 ≡ put (pos x) r1 → r3 ≡ put (pos y) r2 → (takes makes : ℕ) → ReplacementKept k o h (growth w r0 t takes makes) (growth w′ r3 t′ (takes + x) (makes + y))
-            replaced {h} {r2} {r3} p4 e2 e3 takes makes =
+            pub replaced : {h : Scanner} {r3 : Filling} → Passed g h 93 → r3 ≡ put (pos y) (put (pos x) r1) → (takes makes : ℕ) → ReplacementKept k o h (growth w r0 t takes makes) (growth w′ r3 t′ (takes + x) (makes + y))
+            replaced {h} {r3} p4 e takes makes =
                 let v : Replacement = record { error = n .value; taken = m .value; made = q .value } in
                 let counts : r3 ≡ put-all (record-of v) r0 =
-                e3 ∙ ap (put (pos y)) (e2 ∙ ap (put (pos x)) (n .kept)) ∙ (λ i. put (pos (sym (q .is .0) i)) (put (pos (sym (m .is) i)) (put (n .value) r0))) in
+                e ∙ ap (λ (f : Filling). put (pos y) (put (pos x) f)) (n .kept) ∙ (λ i. put (pos (sym (q .is .0) i)) (put (pos (sym (m .is) i)) (put (n .value) r0))) in
                 record {
                   value = v;
                   is = q .is .1;

@@ -1,5 +1,4 @@
 -- Hierarchy lines: their form, the hierarchy that a line says, and its tables. Assumes nothing.
-use mathlib.Core.Path.{_≡_}
 use mathlib.Core.List.{List, [], _∷_, _++_}
 use Prim.Native.Nat.{ℕ, _+_}
 use lib.IntN.{ℤ, pos}
@@ -58,10 +57,11 @@ tokens h = symbol 91 ∷ (symbol (48 + corners-of (h .kind)) ∷ body-tokens (h 
 abbrev pub LineOf : List ℕ → Hierarchy → Type 0
 LineOf bs h = Says hierarchy bs (tokens h)
 
--- a vertex has three numbers, a cell as many as its kind has corners
+-- the made cells have k corners each
 abbrev pub Made : ℕ → Replacement → Type 0
 Made k r = All (Long k) (r .made)
 
+-- a vertex has three numbers, a cell as many as its kind has corners
 pub record Shaped (h : Hierarchy) : Type 0 where
   pub vertices : All (Long 3) (h .vertices)
   pub base : All (Long (corners-of (h .kind))) (h .base)

@@ -28,6 +28,7 @@ pub record Growth : Type 0 where
 abbrev pub growth : Filling → Filling → Filling → ℕ → ℕ → Growth
 growth c r t n m = record { corners = c; replacements = r; taken = t; takes = n; makes = m }
 
+-- with one replacement more, and with several
 abbrev pub with-replacement : Replacement → Growth → Growth
 with-replacement r g =
     growth (put-rows (r .made) (g .corners)) (put-all (record-of r) (g .replacements)) (put-all (r .taken) (g .taken)) (g .takes + length (r .taken)) (g .makes + length (r .made))
@@ -36,6 +37,7 @@ abbrev pub with-replacements : List Replacement → Growth → Growth
 with-replacements rs g =
     growth (put-all (made-corners rs) (g .corners)) (put-all (records rs) (g .replacements)) (put-all (all-taken rs) (g .taken)) (g .takes + taken-count rs) (g .makes + made-count rs)
 
+-- a replacement was read and kept, and so many replacements
 abbrev pub ReplacementKept : ℕ → Scanner → Scanner → Growth → Growth → Type 0
 ReplacementKept k = Kept (Made k) replacement-tokens with-replacement (replacement k)
 
@@ -59,6 +61,7 @@ pub record Fillings : Type 0 where
 abbrev pub fillings : Filling → Filling → Filling → Filling → Fillings
 fillings v c r t = record { coordinates = v; corners = c; replacements = r; taken = t }
 
+-- with the tables of a hierarchy
 abbrev pub with-tables : Tables → Fillings → Fillings
 with-tables t f = fillings (put-all (t .coordinates) (f .coordinates)) (put-all (t .corners) (f .corners)) (put-all (t .replacements) (f .replacements)) (put-all (t .taken) (f .taken))
 

@@ -2,4 +2,5 @@
 // the tables have. With sinks over empty lists it judges the line; with sinks over lent lists it reads it. No call allocates.
 mod replacement;
 mod whole;
+
 pub use whole::pass_hierarchy;

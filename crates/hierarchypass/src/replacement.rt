@@ -1,9 +1,10 @@
 // The replacements of a hierarchy line.
 ghost use denote.Ref.{name};
+ghost use lib.IntN.{pos};
 ghost use lib.ListN.{length};
 ghost use mathlib.Core.Path.{_≡_};
 ghost use Prim.Native.Nat.{_≤_, _+_, ℕ};
-ghost use Rattle.arrays.specs.Sink.{filling};
+ghost use Rattle.arrays.specs.Sink.{filling, put};
 ghost use Rattle.forms.specs.Array.{listed};
 ghost use Rattle.hierarchypass.specs.Line.{replacement};
 ghost use Rattle.hierarchypass.specs.Passing.{growth, ReplacementKept, ReplacementsKept};
@@ -23,6 +24,17 @@ pub struct Totals {
     pub count: usize,
     pub takes: usize,
     pub makes: usize,
+}
+
+// Keeps the counts of a replacement's record, which follow its error.
+fn keep_counts(replacements: &mut Sink<'_>, takes: usize, makes: usize)
+    requires few_taken { ⌜ takes ≤ 65536 ⌝ }
+    requires few_made { ⌜ makes ≤ 65536 ⌝ }
+    ensures lender { λ _. ⌜ name (now (replacements .exit) .places) ≡ name (now (replacements .entry) .places) ⌝ }
+    ensures kept { λ _. ⌜ filling (now (replacements .exit)) ≡ put (pos makes) (put (pos takes) (filling (now (replacements .entry)))) ⌝ }
+{
+    replacements.keep(takes as i32);
+    replacements.keep(makes as i32);
 }
 
 // Reads a replacement, keeps its made cells, its record and its taken numbers, and answers how many cells it takes and makes.
@@ -46,8 +58,7 @@ fn pass_replacement(
     scanner.pass(b',')?;
     let makes = keep_rows(scanner, width, corners)?;
     scanner.pass(b']')?;
-    replacements.keep(takes as i32);
-    replacements.keep(makes as i32);
+    keep_counts(replacements, takes, makes);
     Ok((takes, makes))
 }
 

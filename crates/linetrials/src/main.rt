@@ -3,6 +3,7 @@
 // that reading has to leave as they were: a disturbed one adds the word DISTURBED to the answer.
 mod lists;
 mod trials;
+
 use faults::Fault;
 use hierarchylines::read_hierarchy;
 use lists::Lists;
@@ -81,10 +82,19 @@ fn try_hierarchy(text: &mut String, line: &[u8], room: Room, lists: &mut Lists) 
             let cells = contents.cells;
             let replacements = contents.replacements;
             let taken = contents.taken;
-            write!(text, "ok {kind} {vertices} {base} {cells} {replacements} {taken}")?;
-            lists.first.show(text, vertices.saturating_mul(3), room.coordinates)?;
-            lists.second.show(text, cells.saturating_mul(kind), room.corners)?;
-            lists.third.show(text, replacements.saturating_mul(3), room.replacements)?;
+            write!(
+                text,
+                "ok {kind} {vertices} {base} {cells} {replacements} {taken}"
+            )?;
+            lists
+                .first
+                .show(text, vertices.saturating_mul(3), room.coordinates)?;
+            lists
+                .second
+                .show(text, cells.saturating_mul(kind), room.corners)?;
+            lists
+                .third
+                .show(text, replacements.saturating_mul(3), room.replacements)?;
             lists.fourth.show(text, taken, room.taken)?;
         }
         Err(fault) => {
@@ -101,7 +111,12 @@ fn try_hierarchy(text: &mut String, line: &[u8], room: Room, lists: &mut Lists) 
 }
 
 // Carries out the next trial.
-fn try_next(rt: &LibcRuntime, trials: &mut Trials<'_>, line: &mut Vec<u8>, lists: &mut Lists) -> io::Result<()> {
+fn try_next(
+    rt: &LibcRuntime,
+    trials: &mut Trials<'_>,
+    line: &mut Vec<u8>,
+    lists: &mut Lists,
+) -> io::Result<()> {
     let mut text = String::new(rt.alloc());
     if trials.is_order() {
         let places = trials.number();

@@ -5,7 +5,7 @@ ghost use Rattle.office.specs.Verdict.{Verdict, One-verdict};
 use orderlines::check_order;
 
 // 0 for an order line whose numbers are all in range; else the number of the refusal times a million, and its place. The line
-// comes without a line feed at its end.
+// comes without a line feed at its end. From C the line is a pointer, which is never null, and a length.
 #[unsafe(no_mangle)]
 pub extern "C" fn sinkerred_order_form(line: &[u8]) -> u32
     ensures verdict { λ r. ⌜ Verdict (now (line .entry)) r ⌝ }
@@ -20,5 +20,4 @@ pub extern "C" fn sinkerred_order_form(line: &[u8]) -> u32
 // A line has one verdict only.
 pub fn line_has_one_verdict()
     ensures { λ _. ⌜ One-verdict ⌝ }
-{
-}
+{}

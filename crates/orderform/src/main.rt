@@ -36,11 +36,17 @@ fn explain(text: &mut String, line: &[u8], fault: Fault) -> io::Result<()> {
     match fault.refusal {
         Refusal::InputTooLong => text.push_str("it has more than 65,536 bytes")?,
         Refusal::NumberTooFar => {
-            write!(text, "a number beyond 999,999,999 follows its first {place} bytes: ")?;
+            write!(
+                text,
+                "a number beyond 999,999,999 follows its first {place} bytes: "
+            )?;
             quote_before(text, line, fault)?;
         }
         _ => {
-            write!(text, "it makes sense as an order only up to its first {place} bytes: ")?;
+            write!(
+                text,
+                "it makes sense as an order only up to its first {place} bytes: "
+            )?;
             quote_before(text, line, fault)?;
         }
     }

@@ -46,9 +46,9 @@ order-read {bs} {m} {n} {before} {after} x some room p =
       kept = ap (λ (s : Filling). s .places) (p .kept) ∙ filled before (p .values) (omega (arith, p .counts, same));
     }
 
-pub second-pass : {bs : List ℕ} {m : ℕ} (before after : List ℤ) (filled-to : Filling) (r : Result ℕ Fault) → OrderOf bs m → (m ≡ 0 → ⊥) → m ≤ length before → Cases r (λ n. OrderPassed bs n (lent before 0) filled-to) (Misread order bs) → after ≡ filled-to .places → OrderReading bs before r after
-second-pass {bs} {m} before after filled-to (Ok n) x some room p e = subst (λ (l : List ℤ). OrderRead bs before l n) (sym e) (order-read x (omega (arith, some)) room p)
-second-pass before after filled-to (Err f) x some room p e = absurd (says-or-not (x .says) p)
+pub second-pass : {bs : List ℕ} {m : ℕ} (before after : List ℤ) (filled-to : Filling) (r : Result ℕ Fault) → OrderOf bs m → (0 < m) × (m ≤ length before) → Cases r (λ n. OrderPassed bs n (lent before 0) filled-to) (Misread order bs) → after ≡ filled-to .places → OrderReading bs before r after
+second-pass {bs} {m} before after filled-to (Ok n) x fit p e = subst (λ (l : List ℤ). OrderRead bs before l n) (sym e) (order-read x (fit .0) (fit .1) p)
+second-pass before after filled-to (Err f) x fit p e = absurd (says-or-not (x .says) p)
 
 -- an order that is off limits is not read
 off-or-not : {bs : List ℕ} {before after : List ℤ} {n : ℕ} {f : Fault} → OrderRead bs before after n → OrderOffLimits bs (length before) f → ⊥

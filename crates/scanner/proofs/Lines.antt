@@ -10,7 +10,7 @@ use Rattle.std.specs.declared.option.Option.{Option}
 use Rattle.faults.specs.declared.Fault.{Fault}
 use Rattle.forms.specs.Form.{Form, nothing, _then_, Item, Point, Token, Wrong, Denotes}
 use Rattle.forms.specs.Array.{blanks}
-use Rattle.forms.specs.Progress.{After, onto, Clear}
+use Rattle.forms.specs.Progress.{After, onto, BlankFree}
 use Rattle.forms.specs.Range.{earlier, first-far}
 use Rattle.forms.specs.Line.{Says, Overlong, Misread}
 use Rattle.forms.proofs.Range.{said-near}
@@ -23,7 +23,7 @@ use Rattle.scanner.specs.declared.Scanner.{Scanner}
 abbrev line : Form → Form
 line F = blanks then F
 
-module _ (F : Form) (clear : Clear (onto F nothing)) {bs : List ℕ} {r : Scanner} (b : Begun bs r) where
+module _ (F : Form) (clear : BlankFree (onto F nothing)) {bs : List ℕ} {r : Scanner} (b : Begun bs r) where
   begun : After (line F) (text r) (r .at) [] (onto F nothing)
   begun = subst (λ (w : List ℕ). After (line F) w (r .at) [] (onto F nothing)) (sym (b .same)) (b .took (line F) (onto F nothing) clear (open-end (line F) (start (line F) bs)))
 

@@ -11,7 +11,7 @@ use Rattle.std.specs.declared.option.Option.the-variants.{Some, None}
 use Rattle.faults.specs.declared.Fault.{Fault}
 use Rattle.forms.specs.Form.{Form, nothing, _then_, Item, item, Token, figure, symbol, Wrong}
 use Rattle.forms.specs.Array.{sign, whole, blanks}
-use Rattle.forms.specs.Progress.{After, onto, Clear, Clean, Apt}
+use Rattle.forms.specs.Progress.{After, onto, BlankFree, DigitFree, Apt}
 use Rattle.forms.specs.Range.{said, far, earlier, first-far}
 use Rattle.forms.proofs.Range.{earlier-none, earlier-assoc, first-far-append, clip-far}
 use Rattle.scanner.specs.Scanner.{text, Step, Skipped, Passed, Numbered, Missed, Lost}
@@ -58,7 +58,7 @@ module _ {r s : Scanner} {F : Form} {t : List Token} where
       record { items = p .items; same = p .same; on = p .on; within = p .within; took = λ L K e apt h. p .took L (onto H K) e (fits K apt) h; says = p .says; far = p .far }
 
 module _ {r s : Scanner} {b : ℕ} (p : Passed r s b) where
-  pub mark-step : (H : Form) → ((K : Form) → Apt K → Clear (onto H K)) → Step r s (sign b then H) H (symbol b ∷ [])
+  pub mark-step : (H : Form) → ((K : Form) → Apt K → BlankFree (onto H K)) → Step r s (sign b then H) H (symbol b ∷ [])
   mark-step H fits =
       record {
         items = item (r .at) (symbol b) ∷ [];

@@ -1,7 +1,10 @@
 // The two ends of a line: where reading begins, and that nothing is left.
+ghost use lib.ListN.{length};
 ghost use mathlib.Core.Logic.{_⊎_};
+ghost use Prim.Native.Nat.{_<_, _≤_};
 ghost use Rattle.forms.specs.Line.{Overlong};
 ghost use Rattle.scanner.specs.Scanner.{Begun, Finished, Unfinished};
+ghost use Rattle.std.specs.Orderings.{When};
 ghost use Rattle.std.specs.Results.{Cases};
 use crate::Scanner;
 use faults::Fault;
@@ -28,11 +31,18 @@ impl Scanner<'_> {
     }
 }
 
+// Whether a line is too long.
+fn too_long(bytes: &[u8]) -> bool
+    ensures { λ r. ⌜ When r (65536 < length (now (bytes .entry))) (length (now (bytes .entry)) ≤ 65536) ⌝ }
+{
+    bytes.len() > LONGEST
+}
+
 // A scanner of the line, at its first byte that is no white space.
 pub fn begin<'a>(bytes: &'a [u8]) -> Result<Scanner<'a>, Fault>
     ensures { λ r. ⌜ Cases r (λ s. Begun (now (bytes .entry)) s) (λ f. Overlong (now (bytes .entry)) f) ⌝ }
 {
-    if bytes.len() > LONGEST {
+    if too_long(bytes) {
         return Err(Fault {
             refusal: Refusal::InputTooLong,
             place: LONGEST,

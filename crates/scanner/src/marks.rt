@@ -4,8 +4,8 @@ ghost use Prim.Native.Nat.{ℕ, _≤_, _<_};
 ghost use lib.ListN.{length, drop};
 ghost use Rattle.faults.specs.declared.Refusal.the-variants.{NotOfForm};
 ghost use Rattle.forms.specs.Array.{sign};
-ghost use Rattle.forms.specs.Progress.{ahead, BlankNext};
-ghost use Rattle.scanner.specs.Scanner.{text, Skipped, Passed, Missed};
+ghost use Rattle.forms.specs.Progress.{BlankNext};
+ghost use Rattle.scanner.specs.Scanner.{text, next-byte, Skipped, Passed, Missed};
 ghost use Rattle.std.specs.Options.{Cases as BySome};
 ghost use Rattle.std.specs.Orderings.{When};
 ghost use Rattle.std.specs.Results.{Cases};
@@ -17,7 +17,7 @@ use faults::Refusal;
 impl Scanner<'_> {
     // The byte that comes next.
     pub(crate) fn peek(&self) -> Option<u8>
-        ensures value { λ r. ⌜ r ≡ ahead (drop (now (self .entry) .at) (text (now (self .entry)))) ⌝ }
+        ensures value { λ r. ⌜ r ≡ next-byte (now (self .entry)) ⌝ }
         ensures within { λ r. ⌜ BySome r (length (text (now (self .entry))) ≤ now (self .entry) .at) (λ _. now (self .entry) .at < length (text (now (self .entry)))) ⌝ }
     {
         if self.at < self.bytes.len() {
@@ -39,7 +39,7 @@ impl Scanner<'_> {
 
     // Whether this byte comes next.
     pub fn sees(&self, mark: u8) -> bool
-        ensures { λ r. ⌜ When r ((now (self .entry) .at < length (text (now (self .entry)))) × (ahead (drop (now (self .entry) .at) (text (now (self .entry)))) ≡ Some mark)) (ahead (drop (now (self .entry) .at) (text (now (self .entry)))) ≡ Some mark → ⊥) ⌝ }
+        ensures { λ r. ⌜ When r ((now (self .entry) .at < length (text (now (self .entry)))) × (next-byte (now (self .entry)) ≡ Some mark)) (next-byte (now (self .entry)) ≡ Some mark → ⊥) ⌝ }
     {
         match self.peek() {
             Some(b) => b == mark,

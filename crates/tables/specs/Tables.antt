@@ -32,12 +32,14 @@ counts-made (e ∷ []) = []
 counts-made (e ∷ t ∷ []) = []
 counts-made (e ∷ t ∷ m ∷ rs) = m ∷ counts-made rs
 
+-- the sum
 abbrev pub total : List ℤ → ℤ
 total [] = pos 0
 total (z ∷ zs) = z +ℤ total zs
 
-abbrev pub Natural : ℤ → Type 0
-Natural z = pos 0 ≤ℤ z
+-- not below 0
+abbrev pub NotNegative : ℤ → Type 0
+NotNegative z = pos 0 ≤ℤ z
 
 -- there are 1 to 4,096 whole vertices, and places for them
 pub record VerticesCounted (t : Tables) (p : Places) : Type 0 where
@@ -47,13 +49,14 @@ pub record VerticesCounted (t : Tables) (p : Places) : Type 0 where
   pub most : vertices ≤ 4096
   pub room : length (t .coordinates) ≤ p .coordinates
 
--- there are at most 16,384 whole cells of k corners, and places for them: at least one base cell, and those that the replacements make
+-- There are at most 16,384 whole cells of k corners, and places for them: at least one base cell, and those that the replacements
+-- make. (So there is a cell, and no more base cells than cells.)
 pub record CellsCounted (k : ℕ) (t : Tables) (p : Places) : Type 0 where
   pub cells : ℕ
   pub whole : length (t .corners) ≡ k * cells
   pub most : cells ≤ 16384
   pub some-base : pos 1 ≤ℤ t .base
-  pub natural : All Natural (counts-made (t .replacements))
+  pub natural : All NotNegative (counts-made (t .replacements))
   pub adds-up : t .base +ℤ total (counts-made (t .replacements)) ≡ pos cells
   pub room : length (t .corners) ≤ p .corners
 
@@ -67,7 +70,7 @@ pub record ReplacementsCounted (t : Tables) (p : Places) : Type 0 where
 -- there are at most 16,384 taken numbers, and places for them: those that the replacements take
 pub record TakenCounted (t : Tables) (p : Places) : Type 0 where
   pub most : length (t .taken) ≤ 16384
-  pub natural : All Natural (counts-taken (t .replacements))
+  pub natural : All NotNegative (counts-taken (t .replacements))
   pub adds-up : total (counts-taken (t .replacements)) ≡ pos (length (t .taken))
   pub room : length (t .taken) ≤ p .taken
 

@@ -61,7 +61,10 @@ impl Contents {
         ensures { λ r. ⌜ When r (CellsFit (now (self .entry)) (now (places .entry))) (CellsFit (now (self .entry)) (now (places .entry)) → ⊥) ⌝ }
     {
         let corners = self.kind.corners();
-        self.base >= 1 && self.cells <= MOST_CELLS && corners * self.cells <= places.corners
+        self.base >= 1
+            && self.base <= self.cells
+            && self.cells <= MOST_CELLS
+            && corners * self.cells <= places.corners
     }
 
     fn replacements_fit(&self, places: &Places) -> bool

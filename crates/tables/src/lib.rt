@@ -1,5 +1,5 @@
 // The raw tables that a hierarchy is made of, and the rule of their counts: how many vertices, cells, replacements and taken
-// numbers there may be. A line's reader and the check of raw tables judge by this one rule.
+// numbers there may be. The rule is stated on the raw tables; a reader, which knows how many entries there are, judges by the counts.
 mod contents;
 mod kind;
 

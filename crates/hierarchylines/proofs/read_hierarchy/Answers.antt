@@ -14,10 +14,10 @@ returns-in-Break-contents c = passed-on _ _ (c .from-residual .result) (c .in-Br
 pub returns-in-Break-judge : need.returns-in-Break-judge
 returns-in-Break-judge c =
     passed-on _ _ (c .from-residual-in-Break-judge .result) (c .in-Break-judge .field-0 .0) (c .from-residual-in-Break-judge .ensures .1)
-    (inr (off-limits (c .in-Continue-contents .ensures tt) (lists (c .args .coordinates .now) (c .args .corners .now) (c .args .replacements .now) (c .args .taken .now)) (c .in-Break-judge .ensures tt)), refl)
+    (inr (off-limits (c .in-Continue-contents .ensures tt) (lists (c .args .coordinates .now) (c .args .corners .now) (c .args .replacements .now) (c .args .taken .now)) (c .places-in-places .ensures) (c .in-Break-judge .ensures tt)), refl)
 
 pub returns : need.returns
 returns c =
     let last = c .pass-hierarchy .last in
     second-pass (c .in-Continue-contents .ensures tt) (lists (c .args .coordinates .now) (c .args .corners .now) (c .args .replacements .now) (c .args .taken .now)) _ (fillings (filling (last .coordinates)) (filling (last .corners)) (filling (last .replacements)) (filling (last .taken))) (c .pass-hierarchy .result)
-    (c .in-Continue-judge .ensures tt) (c .pass-hierarchy .ensures .reads) (same-lists (search needs) (search needs) (search needs) (search needs))
+    (c .places-in-places .result) (c .places-in-places .ensures) (c .in-Continue-judge .ensures tt) (c .pass-hierarchy .ensures .reads) (same-lists (search needs) (search needs) (search needs) (search needs))

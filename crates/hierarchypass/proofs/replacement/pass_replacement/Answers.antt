@@ -1,12 +1,7 @@
-use mathlib.Core.Path.{_≡_, refl, ap, _∙_}
-use Prim.Native.Nat.{_≤_}
+use mathlib.Core.Path.{refl, _∙_}
 use native.Mathlib.Omega.{arith}
-use lib.IntN.{ℤ}
-use Rattle.std.proofs.shelf.Signed.{ints}
-use Rattle.forms.proofs.Numbers.{plain-cast}
 use Rattle.faults.proofs.Exits.{passed-on}
 use Rattle.scanner.proofs.Steps.{lost-first}
-use Rattle.arrays.specs.Sink.{filling, put}
 use Rattle.hierarchypass.proofs.Parts.{error-left, error-lost, first-comma-lost, taken-lost, second-comma-lost, made-lost, end-lost, few-taken, few-made, replaced}
 use Rattle.hierarchypass.proofs.replacement.pass_replacement.Needs as need
 
@@ -73,25 +68,18 @@ returns-in-Break-pass-4 c =
       reads = passed-on _ _ (c .from-residual-in-Break-pass-4 .result) (c .in-Break-pass-4 .field-0 .0) (c .from-residual-in-Break-pass-4 .ensures .1) (end-lost (c .args .width) (c .in-Continue-pass .ensures tt) (c .in-Continue-keep-number .ensures tt .reads) (c .in-Continue-pass-2 .ensures tt) (c .in-Continue-takes .ensures tt .reads) (c .in-Continue-pass-3 .ensures tt) (c .in-Continue-makes .ensures tt .reads) (c .in-Break-pass-4 .ensures tt));
     }
 
-pub cast-takes : need.cast-takes
-cast-takes c =
-    let few = few-taken (c .args .width) (c .in-Continue-pass .ensures tt) (c .in-Continue-keep-number .ensures tt .reads) (c .in-Continue-pass-2 .ensures tt) (c .in-Continue-takes .ensures tt .reads) in
-    omega (arith, ints, few, c .pre)
-
-pub cast-makes : need.cast-makes
-cast-makes c =
-    let few = few-made (c .args .width) (c .in-Continue-pass .ensures tt) (c .in-Continue-keep-number .ensures tt .reads) (c .in-Continue-pass-2 .ensures tt) (c .in-Continue-takes .ensures tt .reads) (c .in-Continue-pass-3 .ensures tt) (c .in-Continue-makes .ensures tt .reads) in
-    omega (arith, ints, few, c .pre)
+pub keep-counts-requires : need.keep-counts-requires
+keep-counts-requires c κs =
+    record {
+      few-taken = omega (arith, few-taken (c .args .width) (c .in-Continue-pass .ensures tt) (c .in-Continue-keep-number .ensures tt .reads) (c .in-Continue-pass-2 .ensures tt) (c .in-Continue-takes .ensures tt .reads), c .pre);
+      few-made = omega (arith, few-made (c .args .width) (c .in-Continue-pass .ensures tt) (c .in-Continue-keep-number .ensures tt .reads) (c .in-Continue-pass-2 .ensures tt) (c .in-Continue-takes .ensures tt .reads) (c .in-Continue-pass-3 .ensures tt) (c .in-Continue-makes .ensures tt .reads), c .pre);
+    }
 
 pub returns : need.returns
 returns c =
-    let few = few-taken (c .args .width) (c .in-Continue-pass .ensures tt) (c .in-Continue-keep-number .ensures tt .reads) (c .in-Continue-pass-2 .ensures tt) (c .in-Continue-takes .ensures tt .reads) in
-    let few-2 = few-made (c .args .width) (c .in-Continue-pass .ensures tt) (c .in-Continue-keep-number .ensures tt .reads) (c .in-Continue-pass-2 .ensures tt) (c .in-Continue-takes .ensures tt .reads) (c .in-Continue-pass-3 .ensures tt) (c .in-Continue-makes .ensures tt .reads) in
-    let first = c .keep .ensures .kept ∙ ap (λ (z : ℤ). put z (filling (c .keep-number .last .sink))) (plain-cast (c .in-Continue-takes .takes) (omega (arith, few, c .pre))) in
-    let second = c .keep-2 .ensures .kept ∙ ap (λ (z : ℤ). put z (filling (c .keep .last .self))) (plain-cast (c .in-Continue-makes .makes) (omega (arith, few-2, c .pre))) in
     record {
       corners-lender = c .in-Continue-makes .ensures tt .lender;
-      replacements-lender = c .keep-2 .ensures .lender ∙ c .keep .ensures .lender ∙ c .in-Continue-keep-number .ensures tt .lender;
+      replacements-lender = c .keep-counts .ensures .lender ∙ c .in-Continue-keep-number .ensures tt .lender;
       taken-lender = c .in-Continue-takes .ensures tt .lender;
-      reads = replaced (c .args .width) (c .in-Continue-pass .ensures tt) (c .in-Continue-keep-number .ensures tt .reads) (c .in-Continue-pass-2 .ensures tt) (c .in-Continue-takes .ensures tt .reads) (c .in-Continue-pass-3 .ensures tt) (c .in-Continue-makes .ensures tt .reads) (c .in-Continue-pass-4 .ensures tt) first second;
+      reads = replaced (c .args .width) (c .in-Continue-pass .ensures tt) (c .in-Continue-keep-number .ensures tt .reads) (c .in-Continue-pass-2 .ensures tt) (c .in-Continue-takes .ensures tt .reads) (c .in-Continue-pass-3 .ensures tt) (c .in-Continue-makes .ensures tt .reads) (c .in-Continue-pass-4 .ensures tt) (c .keep-counts .ensures .kept);
     }

@@ -1,11 +1,9 @@
-use mathlib.Core.Path.{_≡_, refl, ap, _∙_}
-use Prim.Native.Nat.{_+_, _≤_}
+use mathlib.Core.Path.{refl, ap, _∙_}
 use native.Mathlib.Omega.{arith}
-use borrow.Author.Needs.{needs}
 use lib.ListN.{length}
 use Rattle.faults.proofs.Exits.{passed-on}
 use Rattle.scanner.proofs.Steps.{lost-first}
-use Rattle.hierarchypass.proofs.Bodies.{at-kind, vertices-left, vertices-lost, first-comma-lost, cells-lost, second-comma-lost, replacements-lost, end-lost, same-text, few-base, few-made, bodied}
+use Rattle.hierarchypass.proofs.Bodies.{at-kind, vertices-left, vertices-lost, first-comma-lost, cells-lost, second-comma-lost, replacements-lost, end-lost, same-text, few-base, few-made, bodied, with-contents}
 use Rattle.hierarchypass.proofs.whole.pass_body.Needs as need
 
 pub returns-in-Break-pass : need.returns-in-Break-pass
@@ -81,12 +79,9 @@ returns-in-Break-pass-4 c =
 pub pass-replacements-requires : need.pass-replacements-requires
 pass-replacements-requires c κs = omega (arith, c .pre, ap length (same-text (c .corners-width .result) (c .in-Continue-pass .ensures tt) (c .in-Continue-vertices .ensures tt .reads) (c .in-Continue-pass-2 .ensures tt) (c .in-Continue-base .ensures tt .reads) (c .in-Continue-pass-3 .ensures tt)))
 
-pub add-result : need.add-result
-add-result c =
-    let base = few-base (c .corners-width .result) (c .in-Continue-pass .ensures tt) (c .in-Continue-vertices .ensures tt .reads) (c .in-Continue-pass-2 .ensures tt) (c .in-Continue-base .ensures tt .reads) in
-    let made = few-made (c .corners-width .result) (c .in-Continue-pass .ensures tt) (c .in-Continue-vertices .ensures tt .reads) (c .in-Continue-pass-2 .ensures tt) (c .in-Continue-base .ensures tt .reads) (c .in-Continue-pass-3 .ensures tt) (c .in-Continue-totals .ensures tt .reads) in
-    let few : c .in-Continue-base .base + c .in-Continue-totals .totals .makes ≤ 131072 = omega (arith, base, made, c .pre) in
-    search needs
+pub contents-of-requires : need.contents-of-requires
+contents-of-requires c κs =
+    omega (arith, few-base (c .corners-width .result) (c .in-Continue-pass .ensures tt) (c .in-Continue-vertices .ensures tt .reads) (c .in-Continue-pass-2 .ensures tt) (c .in-Continue-base .ensures tt .reads), few-made (c .corners-width .result) (c .in-Continue-pass .ensures tt) (c .in-Continue-vertices .ensures tt .reads) (c .in-Continue-pass-2 .ensures tt) (c .in-Continue-base .ensures tt .reads) (c .in-Continue-pass-3 .ensures tt) (c .in-Continue-totals .ensures tt .reads), c .pre)
 
 pub returns : need.returns
 returns c =
@@ -95,5 +90,5 @@ returns c =
       corners-lender = c .in-Continue-totals .ensures tt .corners-lender ∙ c .in-Continue-base .ensures tt .lender;
       replacements-lender = c .in-Continue-totals .ensures tt .replacements-lender;
       taken-lender = c .in-Continue-totals .ensures tt .taken-lender;
-      reads = bodied (c .corners-width .result) (c .in-Continue-pass .ensures tt) (c .in-Continue-vertices .ensures tt .reads) (c .in-Continue-pass-2 .ensures tt) (c .in-Continue-base .ensures tt .reads) (c .in-Continue-pass-3 .ensures tt) (c .in-Continue-totals .ensures tt .reads) (c .args .kind) (c .corners-width .ensures) (c .in-Continue-pass-4 .ensures tt);
+      reads = with-contents (c .contents-of .ensures) (bodied (c .corners-width .result) (c .in-Continue-pass .ensures tt) (c .in-Continue-vertices .ensures tt .reads) (c .in-Continue-pass-2 .ensures tt) (c .in-Continue-base .ensures tt .reads) (c .in-Continue-pass-3 .ensures tt) (c .in-Continue-totals .ensures tt .reads) (c .args .kind) (c .corners-width .ensures) (c .in-Continue-pass-4 .ensures tt));
     }
