@@ -34,11 +34,12 @@ pub fn check_order(line: &[u8]) -> Result<usize, Fault>
     ensures { λ r. ⌜ OrderChecked (now (line .entry)) r ⌝ }
 {
     let mut none = [];
-    let mut sink = Sink {
+    let mut nowhere = Sink {
         places: &mut none,
         used: 0,
     };
-    pass_order(line, &mut sink)
+    let count = pass_order(line, &mut nowhere)?;
+    Ok(count)
 }
 
 // Whether so many values are too few or too many for so many places.
