@@ -42,12 +42,12 @@ pub same-lists : {v v′ c c′ r r′ t t′ : List ℤ} → v ≡ v′ → c �
 same-lists a b c d = λ i. lists (a i) (b i) (c i) (d i)
 
 -- tables that are counted right have places
-stands : (k : ℕ) (h : Hierarchy) (before : Lists) → Clear 4 (Counted k (tables-of h) (places-of before)) → places-in (with-tables (tables-of h) (unused before)) ≡ all-written (tables-of h) before
+stands : (k : ℕ) (h : Hierarchy) (before : Lists) → Clear 0 4 (Counted k (tables-of h) (places-of before)) → places-in (with-tables (tables-of h) (unused before)) ≡ all-written (tables-of h) before
 stands k h before clear =
-    let v : VerticesCounted (tables-of h) (places-of before) = clear 0 (omega arith) in
-    let c : CellsCounted k (tables-of h) (places-of before) = clear 1 (omega arith) in
-    let r : ReplacementsCounted (tables-of h) (places-of before) = clear 2 (omega arith) in
-    let t : TakenCounted (tables-of h) (places-of before) = clear 3 (omega arith) in
+    let v : VerticesCounted (tables-of h) (places-of before) = clear 0 (omega arith) (omega arith) in
+    let c : CellsCounted k (tables-of h) (places-of before) = clear 1 (omega arith) (omega arith) in
+    let r : ReplacementsCounted (tables-of h) (places-of before) = clear 2 (omega arith) (omega arith) in
+    let t : TakenCounted (tables-of h) (places-of before) = clear 3 (omega arith) (omega arith) in
     λ i. lists
     (filled (before .coordinates) (tables-of h .coordinates) (v .room) i)
     (filled (before .corners) (tables-of h .corners) (c .room) i)
@@ -58,25 +58,26 @@ module _ {bs : List ℕ} {n : Contents} (x : LineHolds bs n) (before : Lists) wh
   -- a count that is off limits
   pub off-limits : {p : Places} {f : Fault} → p ≡ places-of before → OffLimits n p f → HierarchyOffLimits bs before f
   off-limits {p} {f} is o =
-      let first = subst (λ (m : Contents). First 4 (Fit m (places-of before)) (f .place)) (x .contents) (subst (λ (q : Places). First 4 (Fit n q) (f .place)) is (o .first)) in
+      let first = subst (λ (m : Contents). First 0 4 (Fit m (places-of before)) (f .place)) (x .contents) (subst (λ (q : Places). First 0 4 (Fit n q) (f .place)) is (o .first)) in
       record {
         refusal = o .refusal;
         value = x .value;
         says = x .says;
         shaped = x .shaped;
         first = record {
+          low = first .low;
           inside = first .inside;
-          before = λ q lt. counted (x .value) (x .shaped) (places-of before) q (first .before q lt);
+          before = λ q ge lt. counted (x .value) (x .shaped) (places-of before) q (first .before q ge lt);
           broken = λ y. first .broken (fits (x .value) (x .shaped) (places-of before) (f .place) y);
         };
       }
 
   -- the second pass over a line whose counts are right
-  pub second-pass : (after : Lists) (filled-to : Fillings) (r : Result Contents Fault) (p : Places) → p ≡ places-of before → Clear 4 (Fit n p) → Cases r (LinePassed bs (unused before) filled-to) (Misread hierarchy bs) → after ≡ places-in filled-to → HierarchyReading bs before r after
+  pub second-pass : (after : Lists) (filled-to : Fillings) (r : Result Contents Fault) (p : Places) → p ≡ places-of before → Clear 0 4 (Fit n p) → Cases r (LinePassed bs (unused before) filled-to) (Misread hierarchy bs) → after ≡ places-in filled-to → HierarchyReading bs before r after
   second-pass after filled-to (Ok m) q is clear p e =
       let same : x .value ≡ p .value = one-hierarchy (x .value) (p .value) (x .says) (p .says) in
-      let clear′ : Clear 4 (CountedIn before (x .value)) = λ i lt. counted (x .value) (x .shaped) (places-of before) i (subst (λ (c : Contents). Fit c (places-of before) i) (x .contents) (subst (λ (k : Places). Fit n k i) is (clear i lt))) in
-      let clear″ : Clear 4 (CountedIn before (p .value)) = subst (λ (h : Hierarchy). Clear 4 (CountedIn before h)) same clear′ in
+      let clear′ : Clear 0 4 (CountedIn before (x .value)) = λ i ge lt. counted (x .value) (x .shaped) (places-of before) i (subst (λ (c : Contents). Fit c (places-of before) i) (x .contents) (subst (λ (k : Places). Fit n k i) is (clear i ge lt))) in
+      let clear″ : Clear 0 4 (CountedIn before (p .value)) = subst (λ (h : Hierarchy). Clear 0 4 (CountedIn before h)) same clear′ in
       record {
         value = p .value;
         says = p .says;
@@ -90,7 +91,7 @@ module _ {bs : List ℕ} {n : Contents} (x : LineHolds bs n) (before : Lists) wh
 off-or-not : {bs : List ℕ} {before after : Lists} {n : Contents} {f : Fault} → HierarchyRead bs before after n → HierarchyOffLimits bs before f → ⊥
 off-or-not {bs} {before} {after} {n} {f} x y =
     let same = one-hierarchy (x .value) (y .value) (x .says) (y .says) in
-    first-or-clear (subst (λ (h : Hierarchy). Clear 4 (CountedIn before h)) same (x .counted)) (y .first)
+    first-or-clear (subst (λ (h : Hierarchy). Clear 0 4 (CountedIn before h)) same (x .counted)) (y .first)
 
 refused-once : {bs : List ℕ} {before : Lists} (f g : Fault) → Misread hierarchy bs f ⊎ HierarchyOffLimits bs before f → Misread hierarchy bs g ⊎ HierarchyOffLimits bs before g → f ≡ g
 refused-once {bs} {before} f g x y =
@@ -99,7 +100,7 @@ refused-once {bs} {before} f g x y =
     (λ a. ⊎-elim (λ b. absurd (says-or-not (a .says) b))
     (λ b.
     let same = one-hierarchy (a .value) (b .value) (a .says) (b .says) in
-    same-fault f g (a .refusal ∙ sym (b .refusal)) (first-once (subst (λ (h : Hierarchy). First 4 (CountedIn before h) (f .place)) same (a .first)) (b .first)))
+    same-fault f g (a .refusal ∙ sym (b .refusal)) (first-once (subst (λ (h : Hierarchy). First 0 4 (CountedIn before h) (f .place)) same (a .first)) (b .first)))
     y)
     x
 

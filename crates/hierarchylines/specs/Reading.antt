@@ -51,7 +51,7 @@ pub record HierarchyRead (bs : List ℕ) (before after : Lists) (c : Contents) :
   pub value : Hierarchy
   pub says : LineOf bs value
   pub shaped : Shaped value
-  pub counted : Clear 4 (CountedIn before value)
+  pub counted : Clear 0 4 (CountedIn before value)
   pub contents : c ≡ contents-of value
   pub kept : after ≡ all-written (tables-of value) before
 
@@ -61,7 +61,7 @@ pub record HierarchyOffLimits (bs : List ℕ) (before : Lists) (f : Fault) : Typ
   pub value : Hierarchy
   pub says : LineOf bs value
   pub shaped : Shaped value
-  pub first : First 4 (CountedIn before value) (f .place)
+  pub first : First 0 4 (CountedIn before value) (f .place)
 
 -- What reading a line comes to: its tables stand in the lists, or it is refused, as 18, as 1, as 2 or as 3, and the lists are as they
 -- were.

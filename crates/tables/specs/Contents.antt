@@ -43,4 +43,4 @@ Fit c p (suc (suc (suc (suc q)))) = Unit {0}
 -- the fault is at the lowest place whose count is off its limits
 pub record OffLimits (c : Contents) (p : Places) (f : Fault) : Type 0 where
   pub refusal : f .refusal ≡ CountOffLimits
-  pub first : First 4 (Fit c p) (f .place)
+  pub first : First 0 4 (Fit c p) (f .place)

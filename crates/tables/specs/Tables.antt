@@ -19,18 +19,24 @@ pub record Tables : Type 0 where
   pub replacements : List ℤ
   pub taken : List ℤ
 
--- the counts taken, and the counts made, of the whole records of a replacement table
+-- column k of the whole records of three numbers that a table has
+abbrev pick : ℕ → ℤ → ℤ → ℤ → ℤ
+pick zero a b c = a
+pick (suc zero) a b c = b
+pick (suc (suc k)) a b c = c
+
+abbrev pub column : ℕ → List ℤ → List ℤ
+column k [] = []
+column k (a ∷ []) = []
+column k (a ∷ b ∷ []) = []
+column k (a ∷ b ∷ c ∷ xs) = pick k a b c ∷ column k xs
+
+-- the counts taken, and the counts made, of a replacement table
 abbrev pub counts-taken : List ℤ → List ℤ
-counts-taken [] = []
-counts-taken (e ∷ []) = []
-counts-taken (e ∷ t ∷ []) = []
-counts-taken (e ∷ t ∷ m ∷ rs) = t ∷ counts-taken rs
+counts-taken = column 1
 
 abbrev pub counts-made : List ℤ → List ℤ
-counts-made [] = []
-counts-made (e ∷ []) = []
-counts-made (e ∷ t ∷ []) = []
-counts-made (e ∷ t ∷ m ∷ rs) = m ∷ counts-made rs
+counts-made = column 2
 
 -- the sum
 abbrev pub total : List ℤ → ℤ
@@ -73,6 +79,10 @@ pub record TakenCounted (t : Tables) (p : Places) : Type 0 where
   pub natural : All NotNegative (counts-taken (t .replacements))
   pub adds-up : total (counts-taken (t .replacements)) ≡ pos (length (t .taken))
   pub room : length (t .taken) ≤ p .taken
+
+-- how many places the tables have themselves
+abbrev pub own-places : Tables → Places
+own-places t = record { coordinates = length (t .coordinates); corners = length (t .corners); replacements = length (t .replacements); taken = length (t .taken) }
 
 -- The rule of the counts, for cells of k corners, by place: 0 vertices, 1 cells, 2 replacements, 3 taken numbers.
 abbrev pub Counted : ℕ → Tables → Places → ℕ → Type 0

@@ -10,13 +10,13 @@ use faults::Fault;
 use faults::Refusal;
 
 // The limits.
-const MOST_VERTICES: usize = 4_096;
+pub const MOST_VERTICES: usize = 4_096;
 
-const MOST_CELLS: usize = 16_384;
+pub const MOST_CELLS: usize = 16_384;
 
-const MOST_REPLACEMENTS: usize = 4_096;
+pub const MOST_REPLACEMENTS: usize = 4_096;
 
-const MOST_TAKEN: usize = 16_384;
+pub const MOST_TAKEN: usize = 16_384;
 
 // What a hierarchy has: `cells` counts base cells and made cells, `taken` all taken numbers.
 #[derive(Clone, Copy)]
@@ -81,7 +81,7 @@ impl Contents {
 
     // Says that every count is within limits and has places, or which is the first that is not.
     pub fn judge(&self, places: &Places) -> Result<(), Fault>
-        ensures { λ r. ⌜ Cases r (λ _. Clear 4 (Fit (now (self .entry)) (now (places .entry)))) (OffLimits (now (self .entry)) (now (places .entry))) ⌝ }
+        ensures { λ r. ⌜ Cases r (λ _. Clear 0 4 (Fit (now (self .entry)) (now (places .entry)))) (OffLimits (now (self .entry)) (now (places .entry))) ⌝ }
     {
         if !self.vertices_fit(places) {
             return Err(off_limits(0));

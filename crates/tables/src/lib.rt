@@ -4,5 +4,9 @@ mod contents;
 mod kind;
 
 pub use contents::Contents;
+pub use contents::MOST_CELLS;
+pub use contents::MOST_REPLACEMENTS;
+pub use contents::MOST_TAKEN;
+pub use contents::MOST_VERTICES;
 pub use contents::Places;
 pub use kind::CellKind;

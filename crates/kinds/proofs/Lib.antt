@@ -1,0 +1,6 @@
+mod Ranks
+mod Sides
+mod OnEdge
+mod Crossings
+mod Covering
+mod Telling

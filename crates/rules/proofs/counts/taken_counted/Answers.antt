@@ -1,0 +1,8 @@
+use mathlib.Core.Path.{_∙_}
+use native.Mathlib.Omega.{arith}
+use lib.ListN.{length}
+use Rattle.std.proofs.shelf.Signed.{ints}
+use Rattle.rules.proofs.counts.taken_counted.Needs as need
+
+pub returns-in-None : need.returns-in-None
+returns-in-None c x = c .in-None .ensures tt (length (c .args .tables .now .taken .now)) (record { natural = x .natural; sum = omega (arith, ints, x .adds-up); most = x .most })

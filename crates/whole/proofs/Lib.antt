@@ -1,0 +1,3 @@
+pub mod Identities
+pub mod Signs
+pub mod Bounds
