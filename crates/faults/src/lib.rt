@@ -12,7 +12,7 @@ pub enum Refusal {
     NotOfForm = 1,
     // A number of a line lies beyond plus or minus 999,999,999.
     NumberTooFar = 2,
-    // A list has more entries than places, or a count is outside its limits.
+    // A list has more entries than places, a count is outside its limits, or the parts of a table do not make it up.
     CountOffLimits = 3,
     // A coordinate of a vertex is out of range.
     CoordinateOffRange = 4,
@@ -36,7 +36,7 @@ pub enum Refusal {
     MeshAboveCeiling = 13,
     // The step list has fewer places than there are steps.
     StepListTooShort = 14,
-    // The stage has fewer places than there are cells.
+    // The stage has fewer places than are needed.
     StageTooSmall = 15,
     // A step is not legal where it comes.
     StepNotLegal = 16,

@@ -44,10 +44,19 @@ TriangleExamples =
     × Off (λ e. triangle.meets-edge vertices e (at (negsuc 1) (pos 1))) (triangle.rim-of corners)
     × (triangle.covers-in vertices corners (at (negsuc 1) (pos 1)) ≡ false)
     × (total (triangle.edge-weight vertices (at (negsuc 1) (pos 1))) (triangle.rim-of corners) ≡ pos 0)
-    -- (2, 0) lies on the edge of 0 and 1, and is not covered; (6, 0) lies on no more than the line
+    -- (2, 0) lies on the edge of 0 and 1, and is not covered; (6, 0) lies on the line of that edge, but not on the edge
     × (triangle.meets-edge vertices (edge (pos 0) (pos 1)) (at (pos 2) (pos 0)) ≡ true)
     × (triangle.covers-in vertices corners (at (pos 2) (pos 0)) ≡ false)
     × (triangle.meets-edge vertices (edge (pos 0) (pos 1)) (at (pos 6) (pos 0)) ≡ false)
+    -- a corner lies on the edge of 0 and 1, and is not covered
+    × (triangle.meets-edge vertices (edge (pos 0) (pos 1)) (at (pos 4) (pos 0)) ≡ true)
+    × (triangle.covers-in vertices corners (at (pos 4) (pos 0)) ≡ false)
+    -- a neighbour runs the edge of 0 and 1 the other way: the same edge, and the other sign
+    × (triangle.sound-in vertices (pos 1 ∷ pos 0 ∷ pos 3 ∷ []) ≡ true)
+    × (triangle.rim-of (pos 1 ∷ pos 0 ∷ pos 3 ∷ []) ≡ with-minus (edge (pos 0) (pos 1)) ∷ with-plus (edge (pos 0) (pos 3)) ∷ with-minus (edge (pos 1) (pos 3)) ∷ [])
+    -- three corners on one line are not sound, and three of which one is no vertex cover nothing
+    × (triangle.sound-in vertices (pos 0 ∷ pos 1 ∷ pos 0 ∷ []) ≡ false)
+    × (triangle.covers-in vertices (pos 0 ∷ pos 1 ∷ pos 4 ∷ []) (at (pos 1) (pos 1)) ≡ false)
     -- what turns right, has two or four corners, or a corner that is no vertex, is not sound; two corners cover nothing and have no rim
     × (triangle.sound-in vertices (pos 0 ∷ pos 2 ∷ pos 1 ∷ []) ≡ false)
     × (triangle.sound-in vertices (pos 0 ∷ pos 1 ∷ []) ≡ false)

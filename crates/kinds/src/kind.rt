@@ -18,7 +18,7 @@ pub struct Signed<F> {
 }
 
 pub trait Kind {
-    // how many corners a cell has
+    // how many corners a cell has; no contract can name it, so generic code asks `corner_count`
     const CORNERS: usize;
 
     // a facet of a cell, and what a cell may cover
@@ -53,7 +53,10 @@ pub trait Kind {
     // a cell has corners
     law some: { 0 < arity };
 
-    // a cell with as many corners as the kind has as many facets
+    // a sound cell has the kind's number of corners
+    law cornered: { (vs cell : List ℤ) → sound vs cell ≡ true → length cell ≡ arity };
+
+    // a cell that has the kind's number of corners has as many facets
     law sided: { (cell : List ℤ) → length cell ≡ arity → length (rim cell) ≡ arity };
 
     // for a sound cell and a point off its facets, the facets' weights add up to 1 if the cell covers the point, else to 0

@@ -15,11 +15,11 @@ use whole::times;
 #[derive(Clone, Copy)]
 pub struct Triangle;
 
-// Two vertices in no order: the lower number first.
+// Two vertices in no order: `Edge::run`, which alone makes edges, puts the lower number first.
 #[derive(Clone, Copy)]
 pub struct Edge {
-    pub low: VertexId,
-    pub high: VertexId,
+    low: VertexId,
+    high: VertexId,
 }
 
 // The corners of a triangle.

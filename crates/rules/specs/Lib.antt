@@ -1,3 +1,4 @@
 pub mod Raw
 pub mod Values
 pub mod Counts
+pub mod Rows

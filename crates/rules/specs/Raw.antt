@@ -10,11 +10,11 @@ use Rattle.rules.specs.declared.raw.RawTables.{RawTables}
 abbrev pub lists-of : RawTables → Tables
 lists-of t = record { coordinates = t .coordinates .now; corners = t .corners .now; base = t .base; replacements = t .replacements .now; taken = t .taken .now }
 
--- what stands at place i, of those that there are
+-- what stands at place i; 0 past the end, which no rule asks for
 abbrev pub at : List ℤ → ℕ → ℤ
 at xs i = getD xs i (pos 0)
 
--- column k of the whole record i of three
+-- column k of record i, where records have three numbers
 abbrev pub field : List ℤ → ℕ → ℕ → ℤ
 field xs i k = at xs (3 * i + k)
 

@@ -1,4 +1,5 @@
--- The rules on the numbers in the tables, place by place. Vertices and cells are counted from 0, replacements from 1. Assumes nothing.
+-- The rules on the numbers in the tables, place by place. Vertices and cells are counted from 0, replacements from 1, so record n − 1 is
+-- that of replacement n. Assumes nothing.
 use mathlib.Core.Bool.{Bool, true}
 use mathlib.Core.List.{List}
 use mathlib.Core.Path.{_≡_}

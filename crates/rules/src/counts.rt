@@ -14,10 +14,10 @@ ghost use Rattle.tables.specs.Tables.{column as column-of, own-places, Vertices
 use crate::RawTables;
 use crate::values::field;
 use faults::Fault;
-use faults::Refusal;
 use tables::MOST_CELLS;
 use tables::MOST_REPLACEMENTS;
 use tables::MOST_VERTICES;
+use tables::off_limits;
 
 // What the counts of a column add up to, from a start on, unless one is below 0 or the sum is above the limit of cells and of taken
 // numbers.
@@ -106,18 +106,8 @@ fn taken_counted(tables: &RawTables<'_>) -> bool
     }
 }
 
-// The fault of a count that is off its limits.
-fn off_limits(place: usize) -> Fault
-    ensures { λ r. ⌜ r ≡ record { refusal = CountOffLimits; place = place } ⌝ }
-{
-    Fault {
-        refusal: Refusal::CountOffLimits,
-        place,
-    }
-}
-
 // Judges the counts of raw tables, where cells have `width` corners.
-pub fn judge_counts(width: usize, tables: &RawTables<'_>) -> Result<(), Fault>
+pub(crate) fn judge_counts(width: usize, tables: &RawTables<'_>) -> Result<(), Fault>
     ensures { λ r. ⌜ Cases r (λ _. Clear 0 4 (Counted width (lists-of (now (tables .entry))) (own-places (lists-of (now (tables .entry)))))) (λ f. (f .refusal ≡ CountOffLimits) × First 0 4 (Counted width (lists-of (now (tables .entry))) (own-places (lists-of (now (tables .entry))))) (f .place)) ⌝ }
 {
     if !vertices_counted(tables) {

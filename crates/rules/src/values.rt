@@ -4,18 +4,12 @@ ghost use lib.IntN.{ℤ, pos};
 ghost use lib.ListN.{length};
 ghost use mathlib.Core.Path.{_≡_};
 ghost use Prim.Native.Nat.{ℕ, _+_, _-_, _*_, _/_};
-ghost use Rattle.faults.specs.declared.Refusal.the-variants.{CoordinateOffRange, ErrorOffRange, NoSuchVertex, NoRefinement};
 ghost use Rattle.rules.specs.Raw.{at, field as field-of, cell, lists-of};
 ghost use Rattle.rules.specs.Values.{Coordinate, CoordinatesKept, ErrorKept, Numbered, CornersKept, GrowthKept};
 ghost use Rattle.std.specs.Orderings.{When};
-ghost use Rattle.std.specs.Results.{Cases};
 ghost use Rattle.std.specs.shelf.Lists.{All};
-ghost use Rattle.tables.specs.Judging.{Clear, First};
 use crate::RawTables;
-use crate::Rule;
-use crate::judge;
-use faults::Fault;
-use faults::Refusal;
+use crate::rule::Rule;
 
 // The number at a place, and 0 past the end.
 fn number_at(list: &[i32], place: usize) -> i32
@@ -68,11 +62,11 @@ pub(crate) fn cell_at(corners: &[i32], k: usize, c: usize) -> &[i32]
 }
 
 #[derive(Clone, Copy)]
-struct Coordinates<'a> {
-    tables: RawTables<'a>,
+pub(crate) struct Coordinates<'a> {
+    pub(crate) tables: RawTables<'a>,
 }
 
-impl<'a> Rule for Coordinates<'a> as CoordinatesRule {
+pub impl<'a> Rule for Coordinates<'a> as CoordinatesRule {
     ghost kept = { λ s v. CoordinatesKept (lists-of (s .tables)) v };
 
     fn holds(&self, place: usize) -> bool {
@@ -83,11 +77,11 @@ impl<'a> Rule for Coordinates<'a> as CoordinatesRule {
 }
 
 #[derive(Clone, Copy)]
-struct Errors<'a> {
-    tables: RawTables<'a>,
+pub(crate) struct Errors<'a> {
+    pub(crate) tables: RawTables<'a>,
 }
 
-impl<'a> Rule for Errors<'a> as ErrorsRule {
+pub impl<'a> Rule for Errors<'a> as ErrorsRule {
     ghost kept = { λ s n. ErrorKept (lists-of (s .tables)) n };
 
     fn holds(&self, place: usize) -> bool {
@@ -97,12 +91,12 @@ impl<'a> Rule for Errors<'a> as ErrorsRule {
 }
 
 #[derive(Clone, Copy)]
-struct Corners<'a> {
-    width: usize,
-    tables: RawTables<'a>,
+pub(crate) struct Corners<'a> {
+    pub(crate) width: usize,
+    pub(crate) tables: RawTables<'a>,
 }
 
-impl<'a> Rule for Corners<'a> as CornersRule {
+pub impl<'a> Rule for Corners<'a> as CornersRule {
     ghost kept = { λ s c. CornersKept (s .width) (lists-of (s .tables)) c };
 
     fn holds(&self, place: usize) -> bool {
@@ -114,11 +108,11 @@ impl<'a> Rule for Corners<'a> as CornersRule {
 }
 
 #[derive(Clone, Copy)]
-struct Growth<'a> {
-    tables: RawTables<'a>,
+pub(crate) struct Growth<'a> {
+    pub(crate) tables: RawTables<'a>,
 }
 
-impl<'a> Rule for Growth<'a> as GrowthRule {
+pub impl<'a> Rule for Growth<'a> as GrowthRule {
     ghost kept = { λ s n. GrowthKept (lists-of (s .tables)) n };
 
     fn holds(&self, place: usize) -> bool {
@@ -126,37 +120,4 @@ impl<'a> Rule for Growth<'a> as GrowthRule {
         let makes = field(self.tables.replacements, place.saturating_sub(1), 2);
         0 < takes && takes < makes
     }
-}
-
-// Judges the coordinates of the first `count` vertices.
-pub fn judge_coordinates(tables: RawTables<'_>, count: usize) -> Result<(), Fault>
-    ensures { λ r. ⌜ Cases r (λ _. Clear 0 count (CoordinatesKept (lists-of (tables .entry)))) (λ f. (f .refusal ≡ CoordinateOffRange) × First 0 count (CoordinatesKept (lists-of (tables .entry))) (f .place)) ⌝ }
-{
-    judge(
-        &Coordinates { tables },
-        Refusal::CoordinateOffRange,
-        0,
-        count,
-    )
-}
-
-// Judges the errors of the replacements below `upto`.
-pub fn judge_errors(tables: RawTables<'_>, upto: usize) -> Result<(), Fault>
-    ensures { λ r. ⌜ Cases r (λ _. Clear 1 upto (ErrorKept (lists-of (tables .entry)))) (λ f. (f .refusal ≡ ErrorOffRange) × First 1 upto (ErrorKept (lists-of (tables .entry))) (f .place)) ⌝ }
-{
-    judge(&Errors { tables }, Refusal::ErrorOffRange, 1, upto)
-}
-
-// Judges the corners of the first `count` cells, which have `width` corners.
-pub fn judge_corners(width: usize, tables: RawTables<'_>, count: usize) -> Result<(), Fault>
-    ensures { λ r. ⌜ Cases r (λ _. Clear 0 count (CornersKept width (lists-of (tables .entry)))) (λ f. (f .refusal ≡ NoSuchVertex) × First 0 count (CornersKept width (lists-of (tables .entry))) (f .place)) ⌝ }
-{
-    judge(&Corners { width, tables }, Refusal::NoSuchVertex, 0, count)
-}
-
-// Judges that the replacements below `upto` take one cell or more, and make more.
-pub fn judge_growth(tables: RawTables<'_>, upto: usize) -> Result<(), Fault>
-    ensures { λ r. ⌜ Cases r (λ _. Clear 1 upto (GrowthKept (lists-of (tables .entry)))) (λ f. (f .refusal ≡ NoRefinement) × First 1 upto (GrowthKept (lists-of (tables .entry))) (f .place)) ⌝ }
-{
-    judge(&Growth { tables }, Refusal::NoRefinement, 1, upto)
 }

@@ -19,12 +19,13 @@ pub record Tables : Type 0 where
   pub replacements : List ℤ
   pub taken : List ℤ
 
--- column k of the whole records of three numbers that a table has
+-- the first, the second or else the third of three numbers
 abbrev pick : ℕ → ℤ → ℤ → ℤ → ℤ
 pick zero a b c = a
 pick (suc zero) a b c = b
 pick (suc (suc k)) a b c = c
 
+-- column 0, 1 or 2 of the whole records of three numbers that a table has
 abbrev pub column : ℕ → List ℤ → List ℤ
 column k [] = []
 column k (a ∷ []) = []

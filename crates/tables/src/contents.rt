@@ -39,7 +39,7 @@ pub struct Places {
 }
 
 // The fault of a count that is off its limits.
-fn off_limits(place: usize) -> Fault
+pub fn off_limits(place: usize) -> Fault
     ensures { λ r. ⌜ r ≡ record { refusal = CountOffLimits; place = place } ⌝ }
 {
     Fault {

@@ -9,4 +9,5 @@ pub use contents::MOST_REPLACEMENTS;
 pub use contents::MOST_TAKEN;
 pub use contents::MOST_VERTICES;
 pub use contents::Places;
+pub use contents::off_limits;
 pub use kind::CellKind;
