@@ -27,14 +27,18 @@ take-short xs m n is =
 take-none : (n : ℕ) (xs : List ℤ) → xs ≡ [] → take n xs ≡ []
 take-none n xs e = take-all n xs (omega (arith, ap length e)) ∙ e
 
-pub same-cell : (xs : List ℤ) (k c from upto : ℕ) → length xs < 2 ^ 64 → from ≡ min (min (k * c) (2 ^ 64 - 1)) (length xs) → upto ≡ min (min (from + k) (2 ^ 64 - 1)) (length xs) → take (upto - from) (drop from xs) ≡ cell k xs c
-same-cell xs k c from upto short is ends =
+-- a stretch that is cut at the list's end
+pub same-stretch : (xs : List ℤ) (place count from upto : ℕ) → length xs < 2 ^ 64 → from ≡ min place (length xs) → upto ≡ min (min (from + count) (2 ^ 64 - 1)) (length xs) → take (upto - from) (drop from xs) ≡ take count (drop place xs)
+same-stretch xs place count from upto short is ends =
     ⊎-elim
     (λ lt.
-    let e : from ≡ k * c = omega arith in
-    take-short (drop from xs) (upto - from) k (omega (arith, length-drop from xs)) ∙ ap (λ (n : ℕ). take k (drop n xs)) e)
+    let e : from ≡ place = omega arith in
+    take-short (drop from xs) (upto - from) count (omega (arith, length-drop from xs)) ∙ ap (λ (n : ℕ). take count (drop n xs)) e)
     (λ ge.
     let a : drop from xs ≡ [] = drop-all from xs (omega arith) in
-    let b : drop (k * c) xs ≡ [] = drop-all (k * c) xs (omega arith) in
-    take-none (upto - from) (drop from xs) a ∙ sym (take-none k (drop (k * c) xs) b))
-    (cases-lt (k * c) (length xs))
+    let b : drop place xs ≡ [] = drop-all place xs (omega arith) in
+    take-none (upto - from) (drop from xs) a ∙ sym (take-none count (drop place xs) b))
+    (cases-lt place (length xs))
+
+pub same-cell : (xs : List ℤ) (k c from upto : ℕ) → length xs < 2 ^ 64 → from ≡ min (min (k * c) (2 ^ 64 - 1)) (length xs) → upto ≡ min (min (from + k) (2 ^ 64 - 1)) (length xs) → take (upto - from) (drop from xs) ≡ cell k xs c
+same-cell xs k c from upto short is ends = same-stretch xs (k * c) k from upto short (omega arith) ends

@@ -1,2 +1,3 @@
 pub mod Clamped
+pub mod Growing
 pub mod Sums

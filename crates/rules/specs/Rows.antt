@@ -9,9 +9,10 @@ use lib.ListN.{length}
 use Rattle.std.specs.Results.{Cases}
 use Rattle.std.specs.declared.result.Result.{Result}
 use Rattle.faults.specs.declared.Fault.{Fault}
-use Rattle.faults.specs.declared.Refusal.the-variants.{CountOffLimits, CoordinateOffRange, ErrorOffRange, NoSuchVertex, CellNotSound, NoRefinement}
+use Rattle.faults.specs.declared.Refusal.the-variants.{CountOffLimits, CoordinateOffRange, ErrorOffRange, NoSuchVertex, CellNotSound, NoRefinement, TakesNoEarlierCell}
 use Rattle.tables.specs.Judging.{Row, Lawful, Refused}
 use Rattle.tables.specs.Tables.{Tables, Counted, own-places}
+use Rattle.rules.specs.Ranges.{EarlierKept}
 use Rattle.rules.specs.Values.{CoordinatesKept, ErrorKept, CornersKept, SoundnessKept, GrowthKept}
 
 -- how many whole vertices, whole cells of k corners and whole records of replacements there are
@@ -25,7 +26,7 @@ abbrev pub replacements-in : Tables → ℕ
 replacements-in t = length (t .replacements) / 3
 
 -- the rules for cells of k corners and their soundness: the counts, of which a table has just the places that it fills; coordinates,
--- errors, corners, soundness, growth
+-- errors, corners, soundness, growth, earlier cells only
 abbrev pub rows : ℕ → (List ℤ → List ℤ → Bool) → Tables → List Row
 rows k sound t =
     record { refusal = CountOffLimits; from = 0; upto = 4; kept = Counted k t (own-places t) }
@@ -34,6 +35,7 @@ rows k sound t =
     ∷ record { refusal = NoSuchVertex; from = 0; upto = cells-in k t; kept = CornersKept k t }
     ∷ record { refusal = CellNotSound; from = 0; upto = cells-in k t; kept = SoundnessKept sound k t }
     ∷ record { refusal = NoRefinement; from = 1; upto = replacements-in t + 1; kept = GrowthKept t }
+    ∷ record { refusal = TakesNoEarlierCell; from = 1; upto = replacements-in t + 1; kept = EarlierKept t }
     ∷ []
 
 -- What judging comes to: every rule holds everywhere, or the first broken one is told.

@@ -1,9 +1,10 @@
-// The rules of raw tables that can be judged vertex by vertex, cell by cell and replacement by replacement, and those of their counts
-// before them. They are judged in rising order, each over its whole table, and the first that is broken is told, at the lowest place.
+// The rules of raw tables that need no memory to judge: the counts, and then those of vertices, of cells and of replacements, up to that
+// a replacement takes earlier cells only. They are judged in rising order, each over its whole table, and the first that is broken is told, at the lowest place.
 // No call allocates.
 ghost use Rattle.rules.specs.Raw.{lists-of};
 ghost use Rattle.rules.specs.Rows.{Judged, Judged-once};
 use counts::judge_counts;
+use earlier::judge_earlier;
 use faults::Fault;
 use faults::Refusal;
 use kinds::Kind;
@@ -21,6 +22,7 @@ use values::Growth;
 use values::GrowthRule;
 
 mod counts;
+mod earlier;
 mod raw;
 mod rule;
 mod soundness;
@@ -28,7 +30,8 @@ mod values;
 
 pub use raw::RawTables;
 
-// Judges the counts, coordinates, errors, corners, soundness and growth of raw tables of a kind of cell.
+// Judges the counts, coordinates, errors, corners, soundness and growth of raw tables of a kind of cell, and that replacements take
+// earlier cells only.
 pub fn judge_tables<K: Kind>(tables: RawTables<'_>) -> Result<(), Fault>
     ensures { λ r. ⌜ Judged (K·Kind .arity) (K·Kind .sound) (lists-of (tables .entry)) r ⌝ }
 {
@@ -55,7 +58,8 @@ pub fn judge_tables<K: Kind>(tables: RawTables<'_>) -> Result<(), Fault>
         0,
         cells,
     )?;
-    judge(&Growth { tables }, Refusal::NoRefinement, 1, past)
+    judge(&Growth { tables }, Refusal::NoRefinement, 1, past)?;
+    judge_earlier(tables, past)
 }
 
 // Judging comes to one thing only.

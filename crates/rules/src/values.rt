@@ -34,14 +34,14 @@ fn in_range(coordinate: i32) -> bool
 }
 
 // Whether z is one of the numbers below `count`.
-fn is_numbered(count: usize, z: i32) -> bool
+fn is_numbered(count: u128, z: i32) -> bool
     ensures { λ r. ⌜ When r (Numbered count z) (Numbered count z → ⊥) ⌝ }
 {
-    0 <= z && (z as usize) < count
+    0 <= z && (z as u128) < count
 }
 
 // Whether every corner is a vertex.
-fn all_numbered(count: usize, corners: &[i32]) -> bool
+pub(crate) fn all_numbered(count: u128, corners: &[i32]) -> bool
     ensures { λ r. ⌜ When r (All (Numbered count) (now (corners .entry))) (All (Numbered count) (now (corners .entry)) → ⊥) ⌝ }
 {
     for corner in corners {
@@ -101,7 +101,7 @@ pub impl<'a> Rule for Corners<'a> as CornersRule {
 
     fn holds(&self, place: usize) -> bool {
         all_numbered(
-            self.tables.coordinates.len() / 3,
+            (self.tables.coordinates.len() / 3) as u128,
             cell_at(self.tables.corners, self.width, place),
         )
     }
