@@ -1,5 +1,7 @@
 // Arrays of numbers, and of rows of numbers, read into lent lists. One reader serves to judge a line and to read it: a sink over
 // an empty list keeps nothing, and a sink over a lent list fills its places. No call allocates.
+#![tactic(auto)]
+
 mod entries;
 mod rows;
 mod sink;

@@ -1,4 +1,6 @@
 // Boxes along the axes, the smallest box around vertices, and what is known of a replacement: its number, error and box.
+#![tactic(auto)]
+
 mod around;
 mod extent;
 mod facts;

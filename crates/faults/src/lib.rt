@@ -3,6 +3,8 @@
 // depends on the refusal; docs/RULES.md has the table.
 //
 // Want of memory is no refusal: memory is got by constructors that do nothing else.
+#![tactic(auto)]
+
 ghost use Rattle.std.specs.Prelude.{◌≡◌};
 ghost use Rattle.faults.specs.Number.{number_of};
 

@@ -1,4 +1,6 @@
 // Hierarchies: the check that accepts exactly the Multi-Triangulations, and an accepted hierarchy with what is worked out from its tables.
+#![tactic(auto)]
+
 mod hierarchy;
 mod rims;
 mod surroundings;

@@ -1,5 +1,7 @@
 // Hierarchy lines, read whole: the kind of cells, and the tables of vertices, cells, replacements and taken numbers, into lent
 // lists. A line is judged to its last byte before anything is written. No call allocates.
+#![tactic(auto)]
+
 ghost use Rattle.std.specs.Prelude.{◌≡◌, MatchResult};
 ghost use Rattle.forms.specs.Line.{Misread};
 ghost use Rattle.hierarchypass.specs.Line.{hierarchy};

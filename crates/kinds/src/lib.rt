@@ -2,6 +2,8 @@
 // ties the last to the facets. Everything above is written once, for any kind. The two kinds are the triangle and the segment.
 //
 // A cell is the list of its corners, each the number of a vertex. The vertex table holds x, y and z of each vertex in turn.
+#![tactic(auto)]
+
 mod examples;
 mod kind;
 mod numbers;

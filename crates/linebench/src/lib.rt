@@ -1,4 +1,6 @@
 // The line readers as bench/ calls them from C: what came of reading as one number, and the lists. Nothing else uses this crate.
+#![tactic(auto)]
+
 ghost use Rattle.std.specs.Prelude.{◌≡◌};
 ghost use Rattle.hierarchylines.specs.Reading.{lists};
 ghost use Rattle.linebench.specs.Packed.{packed_fault, packed_order, packed_hierarchy, OrderBenched, HierarchyBenched};

@@ -1,6 +1,8 @@
 // linetrials: reads the lines of many trials into lists and prints what came of each, to be held against answers that another
 // reader worked out; tests/make_line_trials.py makes both, and says how they are written. Beside the answer it looks at the places
 // that reading has to leave as they were: a disturbed one adds the word DISTURBED to the answer.
+#![tactic(auto)]
+
 mod lists;
 mod trials;
 

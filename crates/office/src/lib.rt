@@ -1,4 +1,6 @@
 // The one function that the office's order form, a C program, calls: whether a line is a well formed order.
+#![tactic(auto)]
+
 ghost use Rattle.std.specs.Prelude.{◌⊎◌, ◌≡◌, ℕ, ◌≤◌};
 ghost use Rattle.faults.specs.Number.{number_of};
 ghost use Rattle.office.specs.Verdict.{code, Verdict, OneVerdict};

@@ -1,5 +1,7 @@
 // orderform: reads order lines from standard input, and says of each whether it is well formed, or which rule it breaks at which
 // byte. It judges the form and the size of the numbers only; whether an order means something is for the browser to say.
+#![tactic(auto)]
+
 use faults::{Fault, Refusal};
 use orderlines::check_order;
 use std::alloc::AllocError;

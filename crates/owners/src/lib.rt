@@ -1,5 +1,7 @@
 // Who makes and who takes each cell: worked out from raw tables whose counts and ranges are known to be right, into memory that was got
 // before. That no cell is taken twice is judged on the way.
+#![tactic(auto)]
+
 mod blank;
 mod entries;
 mod makers;

@@ -1,6 +1,8 @@
 // The rules of raw tables that need no memory to judge: the counts, and then those of vertices, of cells and of replacements, up to that
 // a replacement takes earlier cells only. They are judged in rising order, each over its whole table, and the first that is broken is told, at the lowest place.
 // No call allocates.
+#![tactic(auto)]
+
 ghost use Rattle.rules.specs.Raw.{lists_of};
 ghost use Rattle.rules.specs.Rows.{Judged, JudgedOnce};
 

@@ -2,6 +2,8 @@
 // reads on, or says at which byte the line stops making sense. It keeps in mind where the first number beyond the range stands,
 // since that is told only of a line that is of its form to the last byte. After a refusal nothing is promised of the scanner, which is
 // not to be used again. No call allocates.
+#![tactic(auto)]
+
 mod ends;
 mod marks;
 mod numbers;

@@ -1,5 +1,7 @@
 // Sets of replacements: what a replacement needs, when a set is closed, the mesh of a set. The words stand in specs/, on raw tables; the
 // calls here do nothing and carry theorems about them.
+#![tactic(auto)]
+
 ghost use Rattle.kinds.specs.Shapes.{shape};
 ghost use Rattle.sets.specs.Examples.{MeshExamples};
 ghost use Rattle.sets.specs.Level.{MeshesAreLevel};
