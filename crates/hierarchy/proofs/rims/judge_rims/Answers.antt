@@ -13,8 +13,8 @@ use Rattle.rules.proofs.Growing.{clear_more}
 use Rattle.tables.specs.Judging.{Clear}
 use Rattle.hierarchy.proofs.rims.judge_rims.Goals as goal
 
-pub rim-kept-requires : goal.rim-kept-requires
-rim-kept-requires g c =
+pub rim_kept-requires : goal.rim_kept-requires
+rim_kept-requires g c =
     let t = lists_of c.args.tables in
     let i : ℕ = c.loop-i.i in
     let ps : List Part = c.args.parts.now in
@@ -23,8 +23,8 @@ rim-kept-requires g c =
     (subst (λ (r : ℕ). Fitting g.K.Kind.arity t.corners (part_of t (i + 1)).first (part_of t (i + 1)).makes (take (part_of t (i + 1)).takes (drop (part_of t (i + 1)).list t.taken)) r) (sym c.loop-i.invariant.1)
     (c.requires.fits (i + 1) (is_numbered t (i + 1) (omega arith) (omega (arith, c.loop-i-test.true, long)))))
 
-pub returns-then-not-rim-kept : goal.returns-then-not-rim-kept
-returns-then-not-rim-kept g c =
+pub returns-then-not-rim_kept : goal.returns-then-not-rim_kept
+returns-then-not-rim_kept g c =
     let t = lists_of c.args.tables in
     let kd = g.K.Kind in
     let k = shape kd.arity kd.rim kd.sound kd.covers kd.meets kd.alike in
@@ -36,7 +36,7 @@ returns-then-not-rim-kept g c =
         low = omega arith;
         inside = omega (arith, c.loop-i-test.true, long);
         before = c.loop-i.invariant.0;
-        broken = subst (λ (p : Part). SameRim k t.corners (range_with_len p.first p.makes) (map nat_abs (take p.takes (drop p.list t.taken))) → ⊥) (part_read t ps c.requires.tied i _ c.loop-i-test.true) c.if-not-rim-kept.ensures.kept;
+        broken = subst (λ (p : Part). SameRim k t.corners (range_with_len p.first p.makes) (map nat_abs (take p.takes (drop p.list t.taken))) → ⊥) (part_read t ps c.requires.tied i _ c.loop-i-test.true) c.if-not-rim_kept.ensures.kept;
       },
     )
 
@@ -48,8 +48,8 @@ loop-i-preserved g c =
     let i : ℕ = c.loop-i.i in
     let ps : List Part = c.args.parts.now in (
       clear_more (RimKept k t) 1 (i + 1) c.loop-i.invariant.0
-          (subst (λ (p : Part). SameRim k t.corners (range_with_len p.first p.makes) (map nat_abs (take p.takes (drop p.list t.taken)))) (part_read t ps c.requires.tied i _ c.loop-i-test.true) c.if-not-rim-kept.ensures.kept),
-      c.rim-kept.ensures.room ∙ c.loop-i.invariant.1,
+          (subst (λ (p : Part). SameRim k t.corners (range_with_len p.first p.makes) (map nat_abs (take p.takes (drop p.list t.taken)))) (part_read t ps c.requires.tied i _ c.loop-i-test.true) c.if-not-rim_kept.ensures.kept),
+      c.rim_kept.ensures.room ∙ c.loop-i.invariant.1,
     )
 
 pub returns : goal.returns

@@ -4,4 +4,4 @@ use Rattle.orderlines.proofs.Orders.{second_pass}
 use Rattle.orderlines.proofs.order.read_order.Goals as goal
 
 pub returns : goal.returns
-returns c = second_pass c.args.values.now _ (filling c.pass-order.new.sink) c.pass-order.result c.in-ok-count.ensures c.if-off-limits.ensures c.pass-order.ensures.reads (search rules)
+returns c = second_pass c.args.values.now _ (filling c.pass_order.new.sink) c.pass_order.result c.in_ok-count.ensures c.if-off_limits.ensures c.pass_order.ensures.reads (search rules)

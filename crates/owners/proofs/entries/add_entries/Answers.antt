@@ -7,7 +7,7 @@ loop-i-preserved c =
     let old : List ℕ = vec_items c.args.list.now in
     let x : ℕ = c.args.number in
     let i : ℕ = c.loop-i.i in
-    let e = c.push-reserved.ensures in (
+    let e = c.push_reserved.ensures in (
       e.items ∙ ap (λ (xs : List ℕ). xs ++ x ∷ []) c.loop-i.invariant.0 ∙ append_assoc old (replicate i x) (x ∷ []) ∙ ap (λ (xs : List ℕ). old ++ xs) (replicate_more i x),
       omega (arith, e.len, c.loop-i.invariant.1),
       e.capacity ∙ c.loop-i.invariant.2,

@@ -11,18 +11,18 @@ use Rattle.owners.proofs.makers.list_makers.Goals as goal
 
 pub loop-i-init : goal.loop-i-init
 loop-i-init c =
-    let e = c.add-entries.ensures in (
-      e.items ∙ ap (λ (xs : List ℕ). xs ++ replicate c.base-count.result 0) (no_items c.args.blank.items c.args.blank.empty) ∙ ap (λ (n : ℕ). replicate n 0) c.base-count.ensures,
-      omega (arith, e.len, c.args.blank.empty, c.base-count.ensures),
+    let e = c.add_entries.ensures in (
+      e.items ∙ ap (λ (xs : List ℕ). xs ++ replicate c.base_count.result 0) (no_items c.args.blank.items c.args.blank.empty) ∙ ap (λ (n : ℕ). replicate n 0) c.base_count.ensures,
+      omega (arith, e.len, c.args.blank.empty, c.base_count.ensures),
       omega (arith, e.capacity, c.args.blank.room),
     )
 
-pub add-entries-requires-in-loop-i : goal.add-entries-requires-in-loop-i
-add-entries-requires-in-loop-i c =
+pub add_entries-requires-in-loop-i : goal.add_entries-requires-in-loop-i
+add_entries-requires-in-loop-i c =
     let r = c.args.ranged.now in
     let f : ℕ → ℕ = count_of 2 r.tables.replacements.now in
     let base : ℕ = nat_abs r.tables.base in
-    omega (arith, c.loop-i.invariant.1, c.loop-i.invariant.2, reach_more base f c.loop-i.i, reach_mono base f (c.loop-i.i + 1) (replacements_in (lists_of r.tables)) (omega (arith, c.loop-i-test.true)), r.made, c.count-at.ensures.value)
+    omega (arith, c.loop-i.invariant.1, c.loop-i.invariant.2, reach_more base f c.loop-i.i, reach_mono base f (c.loop-i.i + 1) (replacements_in (lists_of r.tables)) (omega (arith, c.loop-i-test.true)), r.made, c.count_at.ensures.value)
 
 pub loop-i-preserved : goal.loop-i-preserved
 loop-i-preserved c =
@@ -30,9 +30,9 @@ loop-i-preserved c =
     let f : ℕ → ℕ = count_of 2 r.tables.replacements.now in
     let base : ℕ = nat_abs r.tables.base in
     let i : ℕ = c.loop-i.i in
-    let e = c.add-entries-in-loop-i.ensures in
-    let same : c.count-at.result ≡ f i = c.count-at.ensures.value in (
-      e.items ∙ ap (λ (xs : List ℕ). xs ++ replicate c.count-at.result (i + 1)) c.loop-i.invariant.0 ∙ ap (λ (n : ℕ). makers_list base f i ++ replicate n (i + 1)) same ∙ sym (makers_more base f i),
+    let e = c.add_entries-in-loop-i.ensures in
+    let same : c.count_at.result ≡ f i = c.count_at.ensures.value in (
+      e.items ∙ ap (λ (xs : List ℕ). xs ++ replicate c.count_at.result (i + 1)) c.loop-i.invariant.0 ∙ ap (λ (n : ℕ). makers_list base f i ++ replicate n (i + 1)) same ∙ sym (makers_more base f i),
       omega (arith, e.len, c.loop-i.invariant.1, same, reach_more base f i),
       omega (arith, e.capacity, c.loop-i.invariant.2),
     )

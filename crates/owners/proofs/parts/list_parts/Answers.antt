@@ -13,25 +13,25 @@ use Rattle.owners.proofs.parts.list_parts.Goals as goal
 pub loop-i-init : goal.loop-i-init
 loop-i-init c =
     let b = c.args.blank in
-    (no_items b.items b.empty, b.empty, b.room, refl, omega (arith, c.base-count-first.ensures))
+    (no_items b.items b.empty, b.empty, b.room, refl, omega (arith, c.base_count-first.ensures))
 
 -- where the next list begins, and the next cell
-list_more : (c : goal.After-push-reserved) → c.loop-i.list + c.count-at-takes.result ≡ before 1 c.args.ranged.now.tables.replacements.now (c.loop-i.i + 1)
-list_more c = omega (arith, reach_more 0 (count_of 1 c.args.ranged.now.tables.replacements.now) c.loop-i.i, c.loop-i.invariant.3, c.count-at-takes.ensures.value)
+list_more : (c : goal.After-push_reserved) → c.loop-i.list + c.count_at-takes.result ≡ before 1 c.args.ranged.now.tables.replacements.now (c.loop-i.i + 1)
+list_more c = omega (arith, reach_more 0 (count_of 1 c.args.ranged.now.tables.replacements.now) c.loop-i.i, c.loop-i.invariant.3, c.count_at-takes.ensures.value)
 
-first_more : (c : goal.After-push-reserved) → c.loop-i.first + c.count-at-makes.result ≡ nat_abs c.args.ranged.now.tables.base + before 2 c.args.ranged.now.tables.replacements.now (c.loop-i.i + 1)
-first_more c = omega (arith, reach_more (nat_abs c.args.ranged.now.tables.base) (count_of 2 c.args.ranged.now.tables.replacements.now) c.loop-i.i, c.loop-i.invariant.4, c.count-at-makes.ensures.value)
+first_more : (c : goal.After-push_reserved) → c.loop-i.first + c.count_at-makes.result ≡ nat_abs c.args.ranged.now.tables.base + before 2 c.args.ranged.now.tables.replacements.now (c.loop-i.i + 1)
+first_more c = omega (arith, reach_more (nat_abs c.args.ranged.now.tables.base) (count_of 2 c.args.ranged.now.tables.replacements.now) c.loop-i.i, c.loop-i.invariant.4, c.count_at-makes.ensures.value)
 
 pub overflow-add-list : goal.overflow-add-list
 overflow-add-list c =
     let r = c.args.ranged.now in
-    let few : c.loop-i.list + c.count-at-takes.result ≤ 16384 = omega (arith, list_more c, r.listed, r.short, reach_mono 0 (count_of 1 r.tables.replacements.now) (c.loop-i.i + 1) (replacements_in (lists_of r.tables)) (omega (arith, c.loop-i-test.true))) in
+    let few : c.loop-i.list + c.count_at-takes.result ≤ 16384 = omega (arith, list_more c, r.listed, r.short, reach_mono 0 (count_of 1 r.tables.replacements.now) (c.loop-i.i + 1) (replacements_in (lists_of r.tables)) (omega (arith, c.loop-i-test.true))) in
     search rules
 
 pub overflow-add-first : goal.overflow-add-first
 overflow-add-first c =
     let r = c.args.ranged.now in
-    let few : c.loop-i.first + c.count-at-makes.result ≤ 16384 = omega (arith, first_more c, r.made, reach_mono (nat_abs r.tables.base) (count_of 2 r.tables.replacements.now) (c.loop-i.i + 1) (replacements_in (lists_of r.tables)) (omega (arith, c.loop-i-test.true))) in
+    let few : c.loop-i.first + c.count_at-makes.result ≤ 16384 = omega (arith, first_more c, r.made, reach_mono (nat_abs r.tables.base) (count_of 2 r.tables.replacements.now) (c.loop-i.i + 1) (replacements_in (lists_of r.tables)) (omega (arith, c.loop-i-test.true))) in
     search rules
 
 pub loop-i-preserved : goal.loop-i-preserved
@@ -40,12 +40,12 @@ loop-i-preserved c =
     let f : ℕ → Part = part_of (lists_of r.tables) in
     let i : ℕ = c.loop-i.i in
     let e : i ≡ i + 1 - 1 = omega arith in
-    let x : Part = record { error = c.count-at-error.result; list = c.loop-i.list; takes = c.count-at-takes.result; first = c.loop-i.first; makes = c.count-at-makes.result } in
+    let x : Part = record { error = c.count_at-error.result; list = c.loop-i.list; takes = c.count_at-takes.result; first = c.loop-i.first; makes = c.count_at-makes.result } in
     let new : x ≡ f (i + 1) =
-    (let a = c.count-at-error.ensures.value in let b = c.loop-i.invariant.3 in let d = c.count-at-takes.ensures.value in let g = c.loop-i.invariant.4 in let h = c.count-at-makes.ensures.value in cc) in (
-      c.push-reserved.ensures.items ∙ ap (λ (xs : List Part). xs ++ x ∷ []) c.loop-i.invariant.0 ∙ ap (λ (p : Part). map f (range_with_len 1 i) ++ p ∷ []) new ∙ sym (map-range_with_len_more f 1 i (i + 1) (omega arith)),
-      omega (arith, c.push-reserved.ensures.len, c.loop-i.invariant.1),
-      omega (arith, c.push-reserved.ensures.capacity, c.loop-i.invariant.2),
+    (let a = c.count_at-error.ensures.value in let b = c.loop-i.invariant.3 in let d = c.count_at-takes.ensures.value in let g = c.loop-i.invariant.4 in let h = c.count_at-makes.ensures.value in cc) in (
+      c.push_reserved.ensures.items ∙ ap (λ (xs : List Part). xs ++ x ∷ []) c.loop-i.invariant.0 ∙ ap (λ (p : Part). map f (range_with_len 1 i) ++ p ∷ []) new ∙ sym (map-range_with_len_more f 1 i (i + 1) (omega arith)),
+      omega (arith, c.push_reserved.ensures.len, c.loop-i.invariant.1),
+      omega (arith, c.push_reserved.ensures.capacity, c.loop-i.invariant.2),
       list_more c,
       first_more c,
     )

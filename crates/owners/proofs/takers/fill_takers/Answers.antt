@@ -17,26 +17,26 @@ loop-j-init c = (omega arith, refl, omega arith, claim_none (lists_of c.args.ran
 pub returns-then-takers-c-ne0 : goal.returns-then-takers-c-ne0
 returns-then-takers-c-ne0 c =
     let r = c.args.ranged.now in
-    let e = c.next-taker-taker.ensures in
+    let e = c.next_taker-taker.ensures in
     let z : ℤ = at r.tables.taken.now c.loop-j.j in (
       refl,
-      claim_broken (lists_of r.tables) c.loop-j.j c.next-taker-taker.result.number c.taken-at-c.result c.loop-j.takers c.loop-j.invariant.3 e.known e.spans
-          (natural z _ (r.known c.loop-j.j c.loop-j-test.true) ∙ ap pos (sym c.taken-at-c.ensures.value)) (omega (arith, c.if-takers-c-ne0.true)),
+      claim_broken (lists_of r.tables) c.loop-j.j c.next_taker-taker.result.number c.taken_at-c.result c.loop-j.takers c.loop-j.invariant.3 e.known e.spans
+          (natural z _ (r.known c.loop-j.j c.loop-j-test.true) ∙ ap pos (sym c.taken_at-c.ensures.value)) (omega (arith, c.if-takers-c-ne0.true)),
     )
 
 pub loop-j-preserved : goal.loop-j-preserved
 loop-j-preserved c =
     let r = c.args.ranged.now in
-    let e = c.next-taker-taker.ensures in
+    let e = c.next_taker-taker.ensures in
     let f : ℕ → ℕ = count_of 1 r.tables.replacements.now in
     let j : ℕ = c.loop-j.j in
     let z : ℤ = at r.tables.taken.now j in
     let k = r.known j c.loop-j-test.true in
-    let inside : c.taken-at-c.result < length c.loop-j.takers = omega (arith, c.taken-at-c.ensures.inside, r.counted, c.loop-j.auto.takers, c.requires.sized) in (
+    let inside : c.taken_at-c.result < length c.loop-j.takers = omega (arith, c.taken_at-c.ensures.inside, r.counted, c.loop-j.auto.takers, c.requires.sized) in (
       e.known,
       e.ends,
-      spans_ahead 0 f c.next-taker-taker.result.number j e.spans,
-      claim_more (lists_of r.tables) j c.next-taker-taker.result.number c.taken-at-c.result c.loop-j.takers c.loop-j.invariant.3 e.known (list_real f _ _ e.spans) e.spans inside (natural z _ k ∙ ap pos (sym c.taken-at-c.ensures.value)) c.if-takers-c-ne0.false,
+      spans_ahead 0 f c.next_taker-taker.result.number j e.spans,
+      claim_more (lists_of r.tables) j c.next_taker-taker.result.number c.taken_at-c.result c.loop-j.takers c.loop-j.invariant.3 e.known (list_real f _ _ e.spans) e.spans inside (natural z _ k ∙ ap pos (sym c.taken_at-c.ensures.value)) c.if-takers-c-ne0.false,
     )
 
 pub returns : goal.returns

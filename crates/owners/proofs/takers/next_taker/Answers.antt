@@ -26,6 +26,6 @@ returns c =
     let inside : n < reps = ⊎_elim (λ lt. lt) (λ ge. let same : n ≡ reps = omega (arith, ge, c.requires.known) in absurd (omega (arith, ap (reach 0 f) same, here, r.listed, c.requires.inside))) (cases_lt n reps) in
     record {
       known = omega (arith, inside);
-      ends = omega (arith, reach_more 0 f n, c.requires.ends, c.count-at.ensures.value);
+      ends = omega (arith, reach_more 0 f n, c.requires.ends, c.count_at.ensures.value);
       spans = turn_next 0 f n c.args.j here (r.takes n inside);
     }

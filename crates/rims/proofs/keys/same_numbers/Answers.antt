@@ -18,8 +18,8 @@ returns c =
     let ry : IsNonDecreasing ys' = IsNonDecreasingBy-from_sort (λ x. x) ys' (vec_len c.args.ys.now) ly c.sort-2.ensures.sorted in
     record {
       same = when_alike c.eq.result (slice_eq-Decides Decides-eqb _ _ _ c.eq.ensures)
-          (λ e. level_from_sorted xs ys xs' ys' c.sort.ensures.permutation c.sort-2.ensures.permutation (sym c.as-slice.ensures.value ∙ e ∙ c.as-slice-2.ensures.value))
-          (λ h. c.as-slice.ensures.value ∙ sorted_from_level xs ys xs' ys' c.sort.ensures.permutation c.sort-2.ensures.permutation rx ry h ∙ sym c.as-slice-2.ensures.value);
-      xs-cap = c.sort.ensures.capacity;
-      ys-cap = c.sort-2.ensures.capacity;
+          (λ e. level_from_sorted xs ys xs' ys' c.sort.ensures.permutation c.sort-2.ensures.permutation (sym c.as_slice.ensures.value ∙ e ∙ c.as_slice-2.ensures.value))
+          (λ h. c.as_slice.ensures.value ∙ sorted_from_level xs ys xs' ys' c.sort.ensures.permutation c.sort-2.ensures.permutation rx ry h ∙ sym c.as_slice-2.ensures.value);
+      xs_cap = c.sort.ensures.capacity;
+      ys_cap = c.sort-2.ensures.capacity;
     }

@@ -13,18 +13,18 @@ returns g c =
     let ms = flat_map rim (range_with_len c.args.first c.args.count) in
     let ts = flat_map rim (map nat_abs c.args.taken.now) in
     let told : Told k.alike k.key k.real = record { likes = g.met.K.Kind.likes; likens = g.met.K.Kind.likens; keyed = g.met.K.Kind.keyed } in
-    let run = c.note-run.ensures in
-    let list = c.note-list.ensures in
-    let A : vec_items c.note-list.new.minus ≡ pluses k.key ms ++ minuses k.key ts =
+    let run = c.note_run.ensures in
+    let list = c.note_list.ensures in
+    let A : vec_items c.note_list.new.minus ≡ pluses k.key ms ++ minuses k.key ts =
     list.minus ∙ ap (λ (z : List ℕ). z ++ minuses k.key ts) (run.plus ∙ ap (λ (z : List ℕ). z ++ pluses k.key ms) c.clear.ensures.items) in
-    let B : vec_items c.note-list.new.plus ≡ minuses k.key ms ++ pluses k.key ts =
+    let B : vec_items c.note_list.new.plus ≡ minuses k.key ms ++ pluses k.key ts =
     list.plus ∙ ap (λ (z : List ℕ). z ++ pluses k.key ts) (run.minus ∙ ap (λ (z : List ℕ). z ++ minuses k.key ms) c.clear-2.ensures.items) in
     record {
-      same = when_turn c.same-numbers.result c.same-numbers.ensures.same
+      same = when_turn c.same_numbers.result c.same_numbers.ensures.same
           (λ l. tallies_from_level k.alike k.key k.real told ms ts run.known list.known
-          (subst (λ (z : List ℕ). SameNumbers z (minuses k.key ms ++ pluses k.key ts)) A (subst (λ (z : List ℕ). SameNumbers (vec_items c.note-list.new.minus) z) B l)))
-          (λ h. subst (λ (z : List ℕ). SameNumbers (vec_items c.note-list.new.minus) z) (sym B)
+          (subst (λ (z : List ℕ). SameNumbers z (minuses k.key ms ++ pluses k.key ts)) A (subst (λ (z : List ℕ). SameNumbers (vec_items c.note_list.new.minus) z) B l)))
+          (λ h. subst (λ (z : List ℕ). SameNumbers (vec_items c.note_list.new.minus) z) (sym B)
           (subst (λ (z : List ℕ). SameNumbers z (minuses k.key ms ++ pluses k.key ts)) (sym A) (level_from_tallies k.alike k.key k.real told ms ts run.known list.known h)));
-      made-cap = c.same-numbers.ensures.xs-cap ∙ list.minus_cap ∙ run.plus_cap ∙ c.clear.ensures.capacity;
-      taken-cap = c.same-numbers.ensures.ys-cap ∙ list.plus_cap ∙ run.minus_cap ∙ c.clear-2.ensures.capacity;
+      made_cap = c.same_numbers.ensures.xs_cap ∙ list.minus_cap ∙ run.plus_cap ∙ c.clear.ensures.capacity;
+      taken_cap = c.same_numbers.ensures.ys_cap ∙ list.plus_cap ∙ run.minus_cap ∙ c.clear-2.ensures.capacity;
     }

@@ -4,11 +4,11 @@ use Rattle.rims.specs.Keys.{Noted}
 use Rattle.rims.proofs.Noting.{noted_more, take_nth, nth_inside}
 use Rattle.rims.proofs.rim.note_cell.Goals as goal
 
-pub returns-in-default : goal.returns-in-default
-returns-in-default g c =
+pub returns-in_default : goal.returns-in_default
+returns-in_default g c =
     let rim = g.K.Kind.rim c.args.cell.now in
     let long : length rim ≡ g.K.Kind.arity = g.met.K.Kind.sided c.args.cell.now c.requires.sided in
-    absurd (omega (arith, long, c.requires.sided, c.loop-i-test.true, nth_inside rim c.loop-i.i (sym c.facet.ensures ∙ c.in-default.is)))
+    absurd (omega (arith, long, c.requires.sided, c.loop-i-test.true, nth_inside rim c.loop-i.i (sym c.facet.ensures ∙ c.in_default.is)))
 
 pub loop-i-preserved : goal.loop-i-preserved
 loop-i-preserved g c =

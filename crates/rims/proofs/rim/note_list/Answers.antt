@@ -9,8 +9,8 @@ use Rattle.rims.proofs.Cells.{cell-length, room_more, times_more, below}
 use Rattle.rims.proofs.Noting.{noted_more, joined-push}
 use Rattle.rims.proofs.rim.note_list.Goals as goal
 
-pub note-cell-requires : goal.note-cell-requires
-note-cell-requires g c =
+pub note_cell-requires : goal.note_cell-requires
+note_cell-requires g c =
     let a : ℕ = g.K.Kind.arity in
     let cs : List ℤ = c.args.corners.now in
     let zs : List ℤ = c.args.list.now in
@@ -18,11 +18,11 @@ note-cell-requires g c =
     let n : ℕ = nat_abs (get_or zs i (pos 0)) in
     let more = room_more a i (length zs) c.loop-i-test.true in
     let v = c.loop-i.invariant in
-    let here : c.cell-at.result.now ≡ cell a cs n = c.cell-at.ensures ∙ ap (λ (w : ℕ). cell w cs c.number-at.result) c.corner-count-width.ensures ∙ ap (cell a cs) c.number-at.ensures in
+    let here : c.cell_at.result.now ≡ cell a cs n = c.cell_at.ensures ∙ ap (λ (w : ℕ). cell w cs c.number_at.result) c.corner_count-width.ensures ∙ ap (cell a cs) c.number_at.ensures in
     record {
       sided = ap length here ∙ cell-length a cs n (below (get_or zs i (pos 0)) _ (All-get_or (Numbered _) zs i (pos 0) c.loop-i-test.true c.requires.inside));
-      plus-room = omega (arith, more, v.plus_len, v.plus_cap, c.requires.plus-room);
-      minus-room = omega (arith, more, v.minus_len, v.minus_cap, c.requires.minus-room);
+      plus_room = omega (arith, more, v.plus_len, v.plus_cap, c.requires.plus_room);
+      minus_room = omega (arith, more, v.minus_len, v.minus_cap, c.requires.minus_room);
     }
 
 pub loop-i-preserved : goal.loop-i-preserved
@@ -34,12 +34,12 @@ loop-i-preserved g c =
     let i : ℕ = c.loop-i.i in
     let n : ℕ = nat_abs (get_or zs i (pos 0)) in
     let rim = λ (x : ℕ). k.rim (cell a cs x) in
-    let here : c.cell-at.result.now ≡ cell a cs n = c.cell-at.ensures ∙ ap (λ (w : ℕ). cell w cs c.number-at.result) c.corner-count-width.ensures ∙ ap (cell a cs) c.number-at.ensures in
+    let here : c.cell_at.result.now ≡ cell a cs n = c.cell_at.ensures ∙ ap (λ (w : ℕ). cell w cs c.number_at.result) c.corner_count-width.ensures ∙ ap (cell a cs) c.number_at.ensures in
     let next : flat_map rim (map nat_abs (take i zs)) ++ rim n ≡ flat_map rim (map nat_abs (take (i + 1) zs)) = sym (joined-push rim (map nat_abs (take i zs)) n) ∙ ap (flat_map rim) (sym (map_more nat_abs zs i (pos 0) c.loop-i-test.true)) in
-    let noted = subst (λ (x : List ℤ). Noted k.key k.real c.loop-i.plus c.loop-i.minus c.note-cell.new.plus c.note-cell.new.minus (k.rim x) a) here c.note-cell.ensures in
-    subst (λ (m : ℕ). Noted k.key k.real c.args.plus.now c.args.minus.now c.note-cell.new.plus c.note-cell.new.minus (flat_map rim (map nat_abs (take (i + 1) zs))) m) (times_more a i)
-    (subst (λ ss. Noted k.key k.real c.args.plus.now c.args.minus.now c.note-cell.new.plus c.note-cell.new.minus ss (a * i + a)) next
-    (noted_more k.key k.real c.args.plus.now c.args.minus.now c.loop-i.plus c.loop-i.minus c.note-cell.new.plus c.note-cell.new.minus (flat_map rim (map nat_abs (take i zs))) (rim n) (a * i) a c.loop-i.invariant noted))
+    let noted = subst (λ (x : List ℤ). Noted k.key k.real c.loop-i.plus c.loop-i.minus c.note_cell.new.plus c.note_cell.new.minus (k.rim x) a) here c.note_cell.ensures in
+    subst (λ (m : ℕ). Noted k.key k.real c.args.plus.now c.args.minus.now c.note_cell.new.plus c.note_cell.new.minus (flat_map rim (map nat_abs (take (i + 1) zs))) m) (times_more a i)
+    (subst (λ ss. Noted k.key k.real c.args.plus.now c.args.minus.now c.note_cell.new.plus c.note_cell.new.minus ss (a * i + a)) next
+    (noted_more k.key k.real c.args.plus.now c.args.minus.now c.loop-i.plus c.loop-i.minus c.note_cell.new.plus c.note_cell.new.minus (flat_map rim (map nat_abs (take i zs))) (rim n) (a * i) a c.loop-i.invariant noted))
 
 pub returns : goal.returns
 returns g c =

@@ -9,8 +9,8 @@ use Rattle.rules.specs.Raw.{field}
 use Rattle.rules.proofs.Sums.{column_long, column_at, total_more, total_natural, total_part}
 use Rattle.rules.proofs.counts.add_up.Goals as goal
 
-pub returns-then-start-gt-MOST-CELLS : goal.returns-then-start-gt-MOST-CELLS
-returns-then-start-gt-MOST-CELLS c n x = omega (arith, ints, x.sum, x.most, total_natural _ x.natural, c.if-start-gt-MOST-CELLS.true)
+pub returns-then-start-gt-MOST_CELLS : goal.returns-then-start-gt-MOST_CELLS
+returns-then-start-gt-MOST_CELLS c n x = omega (arith, ints, x.sum, x.most, total_natural _ x.natural, c.if-start-gt-MOST_CELLS.true)
 
 pub returns-then-count-lt0 : goal.returns-then-count-lt0
 returns-then-count-lt0 c n x =
@@ -18,11 +18,11 @@ returns-then-count-lt0 c n x =
     let inside : c.loop-i.i < length col = omega (arith, column_long c.args.column c.args.replacements.now, c.loop-i-test.true) in
     omega (arith, ints, All-get_or NotNegative col c.loop-i.i (pos 0) inside x.natural, column_at c.args.column c.args.replacements.now c.loop-i.i c.requires inside, c.field-count.ensures, c.if-count-lt0.true)
 
-pub returns-then-sum-gt-MOST-CELLS : goal.returns-then-sum-gt-MOST-CELLS
-returns-then-sum-gt-MOST-CELLS c n x =
+pub returns-then-sum-gt-MOST_CELLS : goal.returns-then-sum-gt-MOST_CELLS
+returns-then-sum-gt-MOST_CELLS c n x =
     let col : List ℤ = column c.args.column c.args.replacements.now in
     let inside : c.loop-i.i < length col = omega (arith, column_long c.args.column c.args.replacements.now, c.loop-i-test.true) in
-    omega (arith, ints, x.sum, x.most, total_part col (c.loop-i.i + 1) x.natural, total_more col c.loop-i.i inside, column_at c.args.column c.args.replacements.now c.loop-i.i c.requires inside, c.field-count.ensures, c.if-count-lt0.false, c.if-sum-gt-MOST-CELLS.true, c.loop-i.invariant.1)
+    omega (arith, ints, x.sum, x.most, total_part col (c.loop-i.i + 1) x.natural, total_more col c.loop-i.i inside, column_at c.args.column c.args.replacements.now c.loop-i.i c.requires inside, c.field-count.ensures, c.if-count-lt0.false, c.if-sum-gt-MOST_CELLS.true, c.loop-i.invariant.1)
 
 pub loop-i-preserved : goal.loop-i-preserved
 loop-i-preserved c =
@@ -31,7 +31,7 @@ loop-i-preserved c =
     let here : get_or col c.loop-i.i (pos 0) ≡ field c.args.replacements.now c.loop-i.i c.args.column = column_at c.args.column c.args.replacements.now c.loop-i.i c.requires inside in (
       All-more NotNegative col c.loop-i.i (pos 0) inside c.loop-i.invariant.0 (omega (arith, ints, here, c.field-count.ensures, c.if-count-lt0.false)),
       omega (arith, ints, total_more col c.loop-i.i inside, here, c.field-count.ensures, c.if-count-lt0.false, c.loop-i.invariant.1),
-      c.if-sum-gt-MOST-CELLS.false,
+      c.if-sum-gt-MOST_CELLS.false,
     )
 
 pub returns : goal.returns

@@ -11,13 +11,13 @@ loop-corner-preserved c =
     let z : ℤ = get_or c.args.corners.now c.loop-corner.corner-index (pos 0) in
     let fits : SFits w32 z = search rules in
     All-more (Numbered c.args.count) c.args.corners.now c.loop-corner.corner-index (pos 0) c.loop-corner-test.true c.loop-corner.invariant
-    (subst (Numbered c.args.count) (to_z-of_z w32 z fits) c.if-not-is-numbered.ensures)
+    (subst (Numbered c.args.count) (to_z-of_z w32 z fits) c.if-not-is_numbered.ensures)
 
-pub returns-then-not-is-numbered : goal.returns-then-not-is-numbered
-returns-then-not-is-numbered c all =
+pub returns-then-not-is_numbered : goal.returns-then-not-is_numbered
+returns-then-not-is_numbered c all =
     let z : ℤ = get_or c.args.corners.now c.loop-corner.corner-index (pos 0) in
     let fits : SFits w32 z = search rules in
-    subst (λ (y : ℤ). Numbered c.args.count y → ⊥) (to_z-of_z w32 z fits) c.if-not-is-numbered.ensures
+    subst (λ (y : ℤ). Numbered c.args.count y → ⊥) (to_z-of_z w32 z fits) c.if-not-is_numbered.ensures
     (All-get_or (Numbered c.args.count) c.args.corners.now c.loop-corner.corner-index (pos 0) c.loop-corner-test.true all)
 
 pub returns : goal.returns

@@ -5,7 +5,7 @@ use Rattle.rules.proofs.values.field.Goals as goal
 
 pub returns : goal.returns
 returns c =
-    let fits : SFits w32 c.number-at.result = search rules in
+    let fits : SFits w32 c.number_at.result = search rules in
     let short : length c.args.list.now < 2 ^ 64 = search rules in
-    to_z-of_z w32 c.number-at.result fits ∙ c.number-at.ensures
-    ∙ same_field c.args.list.now c.args.record-at c.args.column _ short (cc)
+    to_z-of_z w32 c.number_at.result fits ∙ c.number_at.ensures
+    ∙ same_field c.args.list.now c.args.record_at c.args.column _ short (cc)

@@ -14,12 +14,12 @@ pub loop-d-preserved : goal.loop-d-preserved
 loop-d-preserved c =
     let same = c.loop-d.invariant.0 in
     let next = subst (λ (w : List ℕ). ahead (drop c.loop-d.self.at w) ≡ Some (48 + c.in-Some-digit.d)) same c.in-Some-digit.ensures.2 in
-    (same, counting_more _ _ _ _ _ c.in-Some-digit.d _ _ c.loop-d.invariant.1 c.in-Some-digit.ensures.0 next c.with-digit-amount.ensures, c.loop-d.invariant.2, omega (arith, ap length same, c.in-Some-digit.ensures.1))
+    (same, counting_more _ _ _ _ _ c.in-Some-digit.d _ _ c.loop-d.invariant.1 c.in-Some-digit.ensures.0 next c.with_digit-amount.ensures, c.loop-d.invariant.2, omega (arith, ap length same, c.in-Some-digit.ensures.1))
 
 pub returns : goal.returns
 returns c =
     let same = c.loop-d.invariant.0 in
-    let none = subst (λ (w : List ℕ). NoDigit (ahead (drop c.loop-d.self.at w))) same c.in-default-digit.ensures in
+    let none = subst (λ (w : List ℕ). NoDigit (ahead (drop c.loop-d.self.at w))) same c.in_default-digit.ensures in
     record {
       same = (same, c.loop-d.invariant.2);
       on = (omega (arith, c.loop-d.invariant.1.reach), c.loop-d.invariant.3);

@@ -8,13 +8,13 @@ use Rattle.faults.proofs.Exits.{passed_on}
 use Rattle.scanner.proofs.Steps.{lost_first, one_step}
 use Rattle.scanner.proofs.Scanner.next_number.Goals as goal
 
-pub returns-in-err-value : goal.returns-in-err-value
-returns-in-err-value c = passed_on _ _ c.from-residual.result c.in-err-value.field-0.0 c.from-residual.ensures.1 (lost_first blanks c.in-err-value.ensures)
+pub returns-in_err-value : goal.returns-in_err-value
+returns-in_err-value c = passed_on _ _ c.from_residual.result c.in_err-value.field-0.0 c.from_residual.ensures.1 (lost_first blanks c.in_err-value.ensures)
 
 pub returns : goal.returns
 returns c =
-    let fits : SFits w32 c.in-ok-value.value = search rules in
-    let back = to_z-of_z w32 c.in-ok-value.value fits in
+    let fits : SFits w32 c.in_ok-value.value = search rules in
+    let back = to_z-of_z w32 c.in_ok-value.value fits in
     let n = c.note.ensures in
-    subst (λ (z : ℤ). Step c.args.self.now c.skip-blanks.new.self whole nothing (figure z ∷ [])) (sym back)
-    (one_step c.in-ok-value.ensures n.same.0 n.same.1 (n.far ∙ ap (λ (z : ℤ). earlier c.integer.new.self.far (far c.args.self.now.at z)) back) c.skip-blanks.ensures)
+    subst (λ (z : ℤ). Step c.args.self.now c.skip_blanks.new.self whole nothing (figure z ∷ [])) (sym back)
+    (one_step c.in_ok-value.ensures n.same.0 n.same.1 (n.far ∙ ap (λ (z : ℤ). earlier c.integer.new.self.far (far c.args.self.now.at z)) back) c.skip_blanks.ensures)

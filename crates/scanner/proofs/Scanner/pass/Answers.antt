@@ -11,7 +11,7 @@ returns-then-not-sees c =
 
 pub returns : goal.returns
 returns c =
-    let k = c.skip-blanks.ensures in
+    let k = c.skip_blanks.ensures in
     record {
       same = k.same;
       on = omega (arith, k.on);

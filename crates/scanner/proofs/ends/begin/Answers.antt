@@ -3,5 +3,5 @@ use Rattle.scanner.proofs.ends.begin.Goals as goal
 
 pub returns : goal.returns
 returns c =
-    let k = c.skip-blanks.ensures in
-    record { short = c.if-too-long.ensures; same = k.same; within = k.within (omega arith); took = λ L K clear h. k.took L K [] clear h; far = k.far }
+    let k = c.skip_blanks.ensures in
+    record { short = c.if-too_long.ensures; same = k.same; within = k.within (omega arith); took = λ L K clear h. k.took L K [] clear h; far = k.far }

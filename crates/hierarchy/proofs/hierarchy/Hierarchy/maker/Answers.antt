@@ -12,4 +12,4 @@ returns g c =
     let n : ℕ = c.args.c.0 in
     let long : length os ≡ cells_in h.width t = omega (arith, h.makers.ok.0, h.sized.0, h.counted.0) in
     maker_asked h.width t os long h.ordered h.made n c.owner.result
-    (subst (λ (l : List ℕ). MatchOption c.owner.result (get_or l n 0 ≡ 0) (λ r. (n < length l) × (r.0 ≡ get_or l n 0) × (0 < r.0))) c.as-slice.ensures.value c.owner.ensures)
+    (subst (λ (l : List ℕ). MatchOption c.owner.result (get_or l n 0 ≡ 0) (λ r. (n < length l) × (r.0 ≡ get_or l n 0) × (0 < r.0))) c.as_slice.ensures.value c.owner.ensures)

@@ -11,7 +11,7 @@ returns g c =
     let h = c.args.self.now in
     let t = lists_of h.tables in
     let n : ℕ = c.args.n.0 in
-    let among = c.if-not-is-among.ensures in
+    let among = c.if-not-is_among.ensures in
     let high : n ≤ replacements_in t = omega (arith, among.1, h.counted.1) in
     let read = λ (f : Part → ℕ). ap f c.index.ensures ∙ range_asked t (vec_items h.parts) h.ranged n _ among.0 high f in
     record {

@@ -21,7 +21,7 @@ returns g c =
     let k = shape kd.arity kd.rim kd.sound kd.covers kd.meets kd.alike in
     let t = lists_of c.args.tables in
     let p = places_for t c.args.work.corners in
-    let plain = c.in-default.ensures in
+    let plain = c.in_default.ensures in
     MatchResult-weaker c.link.result c.link.ensures
     (λ h x. (multi_triangulation k t p plain x.0, corners_room k t p g.met.K.Kind.some (plainly k t p plain), x.1))
     (λ f x. refused_later (plain_rows k t p) (linked_rows k t) f plain x)

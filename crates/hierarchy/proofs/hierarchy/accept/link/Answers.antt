@@ -21,8 +21,8 @@ invariant-of-ranged g c =
       (few k t p some plain, (few_cells k t p some plain, (short k t p some plain, (listed k t p some plain, (takes k t p some plain, (known k t p some plain, tt)))))),
     )
 
-pub judge-rims-requires : goal.judge-rims-requires
-judge-rims-requires g c =
+pub judge_rims-requires : goal.judge_rims-requires
+judge_rims-requires g c =
     let kd = g.K.Kind in
     let k = shape kd.arity kd.rim kd.sound kd.covers kd.meets kd.alike in
     let t = lists_of c.args.tables in
@@ -30,22 +30,22 @@ judge-rims-requires g c =
     let some = g.met.K.Kind.some in
     let plain = plainly k t p c.requires.plain in
     record {
-      tied = c.as-slice.ensures.value ∙ c.list-parts-parts.ensures;
+      tied = c.as_slice.ensures.value ∙ c.list_parts-parts.ensures;
       fits = rims_fit k t p some plain c.args.work.rims.room (omega (arith, c.args.work.ample, corners_room k t p some plain));
     }
 
-pub list-boxes-boxes-requires : goal.list-boxes-boxes-requires
-list-boxes-boxes-requires g c =
+pub list_boxes-boxes-requires : goal.list_boxes-boxes-requires
+list_boxes-boxes-requires g c =
     let kd = g.K.Kind in
     let k = shape kd.arity kd.rim kd.sound kd.covers kd.meets kd.alike in
     let t = lists_of c.args.tables in
     let p = places_for t c.args.work.corners in
     let some = g.met.K.Kind.some in
     let plain = plainly k t p c.requires.plain in
-    let tied = c.as-slice-2.ensures.value ∙ c.list-parts-parts.ensures in
+    let tied = c.as_slice-2.ensures.value ∙ c.list_parts-parts.ensures in
     record {
       tied = tied;
-      few = omega (arith, parts-length t c.as-slice-2.result.now tied, few k t p some plain);
+      few = omega (arith, parts-length t c.as_slice-2.result.now tied, few k t p some plain);
       ready = subst (λ (w : ℕ). BoxesReady w t) (sym c.requires.width) (boxes_ready k t p some plain);
     }
 
@@ -59,16 +59,16 @@ invariant-of-result g c =
     let plain = plainly k t p c.requires.plain in
     let w : ℕ = c.args.width in
     let up : cells_made t ≡ length t.corners / w = adds_up k t p some plain ∙ ap (λ (x : ℕ). length t.corners / x) (sym c.requires.width) in
-    let parts = c.list-parts-parts.result in
-    let boxes = c.list-boxes-boxes.result in
+    let parts = c.list_parts-parts.result in
+    let boxes = c.list_boxes-boxes.result in
     let takers = c.in-Ok.ensures in
     let ordered : Ordered w t = record { some = omega (arith, some, c.requires.width); adds_up = up; growth = plain.growth; earlier = plain.earlier; fresh = takers.1 } in (
       (omega (arith, up, few_cells k t p some plain), few k t p some plain),
       (
         (refl, refl),
         (
-          (omega (arith, c.list-makers-makers.ensures.len, up), omega (arith, takers.0, up), omega (arith, parts.ok.0, parts-length t (vec_items parts) c.list-parts-parts.ensures), omega (arith, boxes.ok.0, c.list-boxes-boxes.ensures.long)),
-          (∣ c.list-parts-parts.ensures ∣₁, (∣ c.list-makers-makers.ensures.ties ∣₁, (∣ takers.2 ∣₁, (∣ ordered ∣₁, tt)))),
+          (omega (arith, c.list_makers-makers.ensures.len, up), omega (arith, takers.0, up), omega (arith, parts.ok.0, parts-length t (vec_items parts) c.list_parts-parts.ensures), omega (arith, boxes.ok.0, c.list_boxes-boxes.ensures.long)),
+          (∣ c.list_parts-parts.ensures ∣₁, (∣ c.list_makers-makers.ensures.ties ∣₁, (∣ takers.2 ∣₁, (∣ ordered ∣₁, tt)))),
         ),
       ),
     )

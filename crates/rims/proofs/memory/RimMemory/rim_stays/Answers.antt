@@ -8,11 +8,11 @@ compare-requires g c =
     let m = c.args.self.now in
     let cs : List ℤ = c.args.corners.now in
     let zs : List ℤ = c.args.taken.now in
-    let f = subst (λ (a : ℕ). Fitting a cs c.args.first c.args.count zs m.room) c.corner-count.ensures c.if-not-fits.ensures in
+    let f = subst (λ (a : ℕ). Fitting a cs c.args.first c.args.count zs m.room) c.corner_count.ensures c.if-not-fits.ensures in
     let room : g.K.Kind.arity * (c.args.count + length zs) ≤ m.room = within g.K.Kind.arity (c.args.count + length zs) m.room f.few in
     record {
       inside = f.made;
       known = f.known;
-      made-room = omega (arith, room, m.ample.0);
-      taken-room = omega (arith, room, m.ample.1);
+      made_room = omega (arith, room, m.ample.0);
+      taken_room = omega (arith, room, m.ample.1);
     }
