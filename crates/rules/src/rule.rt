@@ -14,7 +14,7 @@ pub trait Rule {
 
 // Judges a rule at each place from `from` on, below `upto`.
 pub fn judge<R: Rule>(rule: &R, refusal: Refusal, from: usize, upto: usize) -> Result<(), Fault>
-    ensures { MatchResult result (λ _. Clear from upto (kept rule.now)) (λ f. (f.refusal ≡ refusal) × First from upto (kept rule.now) f.place) }
+    ensures { MatchResult result (λ _. Clear from upto (R.kept rule.now)) (λ f. (f.refusal ≡ refusal) × First from upto (R.kept rule.now) f.place) }
 {
     for place in from..upto {
         if !rule.holds(place) {

@@ -16,8 +16,8 @@ went c = going c.loop-scanner.scanner c.another.new.scanner c.loop-scanner.count
 again : (c : In_ok-keep_number) → Listing Any single put whole c.pass.new.self c.keep_number.new.scanner (c.loop-scanner.count + 1) (filling c.args.sink.now) (filling c.keep_number.new.sink)
 again c = listing_more whole whole_element c.loop-scanner.invariant.0 (went c) c.in_ok-keep_number.ensures.reads (omega (arith, c.in_ok-keep_number.ensures.reads.step.on))
 
-pub overflow-add-count : goal.overflow-add-count
-overflow-add-count c = let h = again c in let few : c.loop-scanner.count + 1 ≤ length c.pass.new.self.bytes.now = omega (arith, h.few, h.inside) in search rules
+pub overflow_add-count : goal.overflow_add-count
+overflow_add-count c = let h = again c in let few : c.loop-scanner.count + 1 ≤ length c.pass.new.self.bytes.now = omega (arith, h.few, h.inside) in search rules
 
 pub loop-scanner-init : goal.loop-scanner-init
 loop-scanner-init c = (listing_none whole whole_element (omega (arith, c.in_ok-pass.ensures.within, ap length c.in_ok-pass.ensures.same)), refl)

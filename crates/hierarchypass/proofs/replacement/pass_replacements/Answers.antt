@@ -25,20 +25,20 @@ again c =
     let k = c.in_ok-more_taken.ensures.reads c.loop-scanner.takes c.loop-scanner.makes in
     listing_more (replacement c.args.width) (replacement_element c.args.width) c.loop-scanner.invariant.0 (went c) k (omega (arith, k.step.on))
 
-pub overflow-add-takes : goal.overflow-add-takes
-overflow-add-takes c =
+pub overflow_add-takes : goal.overflow_add-takes
+overflow_add-takes c =
     let few = few_totals (again c) in
     let bound : c.loop-scanner.takes + c.in_ok-more_taken.more_taken ≤ 65536 = omega (arith, few, c.requires, ap length c.in_ok-pass.ensures.same) in
     search rules
 
-pub overflow-add-makes : goal.overflow-add-makes
-overflow-add-makes c =
+pub overflow_add-makes : goal.overflow_add-makes
+overflow_add-makes c =
     let few = few_totals (again c) in
     let bound : c.loop-scanner.makes + c.in_ok-more_taken.more_made ≤ 65536 = omega (arith, few, c.requires, ap length c.in_ok-pass.ensures.same) in
     search rules
 
-pub overflow-add-count : goal.overflow-add-count
-overflow-add-count c = let h = again c in let few : c.loop-scanner.count + 1 ≤ length c.pass.new.self.bytes.now = omega (arith, h.few, h.inside) in search rules
+pub overflow_add-count : goal.overflow_add-count
+overflow_add-count c = let h = again c in let few : c.loop-scanner.count + 1 ≤ length c.pass.new.self.bytes.now = omega (arith, h.few, h.inside) in search rules
 
 pub loop-scanner-init : goal.loop-scanner-init
 loop-scanner-init c = (listing_none (replacement c.args.width) (replacement_element c.args.width) (omega (arith, c.in_ok-pass.ensures.within, ap length c.in_ok-pass.ensures.same)), refl, refl, refl)

@@ -22,14 +22,14 @@ list_more c = omega (arith, reach_more 0 (count_of 1 c.args.ranged.now.tables.re
 first_more : (c : goal.After-push_reserved) → c.loop-i.first + c.count_at-makes.result ≡ nat_abs c.args.ranged.now.tables.base + before 2 c.args.ranged.now.tables.replacements.now (c.loop-i.i + 1)
 first_more c = omega (arith, reach_more (nat_abs c.args.ranged.now.tables.base) (count_of 2 c.args.ranged.now.tables.replacements.now) c.loop-i.i, c.loop-i.invariant.4, c.count_at-makes.ensures.value)
 
-pub overflow-add-list : goal.overflow-add-list
-overflow-add-list c =
+pub overflow_add-list : goal.overflow_add-list
+overflow_add-list c =
     let r = c.args.ranged.now in
     let few : c.loop-i.list + c.count_at-takes.result ≤ 16384 = omega (arith, list_more c, r.listed, r.short, reach_mono 0 (count_of 1 r.tables.replacements.now) (c.loop-i.i + 1) (replacements_in (lists_of r.tables)) (omega (arith, c.loop-i-test.true))) in
     search rules
 
-pub overflow-add-first : goal.overflow-add-first
-overflow-add-first c =
+pub overflow_add-first : goal.overflow_add-first
+overflow_add-first c =
     let r = c.args.ranged.now in
     let few : c.loop-i.first + c.count_at-makes.result ≤ 16384 = omega (arith, first_more c, r.made, reach_mono (nat_abs r.tables.base) (count_of 2 r.tables.replacements.now) (c.loop-i.i + 1) (replacements_in (lists_of r.tables)) (omega (arith, c.loop-i-test.true))) in
     search rules
