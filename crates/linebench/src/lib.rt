@@ -1,4 +1,5 @@
-// The line readers as bench/ calls them from C: what came of reading as one number, and the lists. Nothing else uses this crate.
+// The line readers as bench/ calls them from C: what came of reading as one number, and the lists. The crate linebench_c exports them,
+// and nothing else uses this one.
 #![tactic(auto)]
 
 ghost use Rattle.std.specs.Prelude.{◌≡◌};
@@ -38,16 +39,14 @@ fn pack_hierarchy(read: Result<Contents, Fault>) -> i64
 }
 
 // How many values the order has that was read, or its refusal.
-#[unsafe(no_mangle)]
-pub extern "C" fn bench_read_order(line: &[u8], values: &mut [i32]) -> i64
+pub fn bench_read_order(line: &[u8], values: &mut [i32]) -> i64
     ensures { OrderBenched line.now values.old result values.new }
 {
     pack_order(read_order(line, values))
 }
 
 // How many cells the hierarchy has that was read, or its refusal.
-#[unsafe(no_mangle)]
-pub extern "C" fn bench_read_hierarchy(
+pub fn bench_read_hierarchy(
     line: &[u8],
     coordinates: &mut [i32],
     corners: &mut [i32],

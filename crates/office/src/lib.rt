@@ -1,4 +1,4 @@
-// The one function that the office's order form, a C program, calls: whether a line is a well formed order.
+// The one function that the office's order form, a C program, calls: whether a line is a well formed order. The crate office_c exports it.
 #![tactic(auto)]
 
 ghost use Rattle.std.specs.Prelude.{◌⊎◌, ◌≡◌, ℕ, ◌≤◌};
@@ -19,9 +19,8 @@ fn code_of(fault: Fault) -> u32
 }
 
 // 0 for an order line whose numbers are all in range; else the number of the refusal times a million, and its place. The line
-// comes without a line feed at its end. From C the line is a pointer, which is never null, and a length.
-#[unsafe(no_mangle)]
-pub extern "C" fn sinkerred_order_form(line: &[u8]) -> u32
+// comes without a line feed at its end.
+pub fn sinkerred_order_form(line: &[u8]) -> u32
     ensures verdict { Verdict line.now result }
     ensures greatest { result ≤ 18065536 }
 {
