@@ -1,15 +1,15 @@
 -- Rows, number by number. Assumes nothing.
-use Rattle.std.proofs.Common.{◌≡◌, ℕ, zero, suc, ◌+◌, ◌-◌, ◌≤◌, List, [], ◌∷◌, ◌++◌, length, ℤ, sym, refl, ap, ◌∙◌, subst, add-one, arith}
+use Rattle.std.proofs.Common.{◌≡◌, ℕ, zero, suc, ◌+◌, ◌-◌, ◌≤◌, [], ◌∷◌, ◌++◌, sym, refl, ap, ◌∙◌, subst, add-one, arith}
 use native.Mathlib.Nat.{sub-zero}
 use Rattle.std.proofs.lemmas.List.{length_push}
 use Rattle.faults.specs.declared.Fault.{Fault}
-use Rattle.forms.specs.Form.{Form, nothing, ◌then◌, Token, symbol}
+use Rattle.forms.specs.Form.{Form, ◌then◌, symbol}
 use Rattle.forms.specs.Array.{sign, whole, row, row_left, columns, parts, single}
 use Rattle.forms.specs.Progress.{onto, BlankFree, Apt}
 use Rattle.scanner.specs.Scanner.{Step, Passed, Missed, Lost}
 use Rattle.scanner.specs.declared.Scanner.{Scanner}
 use Rattle.scanner.proofs.Steps.{step_on, lost_after, lost_by, lost_first, lost_before, step_says, step_before, mark_step, mark_last, still}
-use Rattle.arrays.specs.Sink.{Filling, put, put_all}
+use Rattle.arrays.specs.Sink.{Filling, put}
 use Rattle.arrays.specs.Listing.{NumberKept, RowKept, RowSoFar, lead}
 use Rattle.arrays.proofs.Lists.{parts-push, puts-push}
 

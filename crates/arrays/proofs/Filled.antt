@@ -1,5 +1,5 @@
 -- A lent list with places for all values holds them, one after the other. Assumes nothing.
-use Rattle.std.proofs.Common.{◌≡◌, ℕ, ◌+◌, ◌≤◌, Bool, true, cond, ltb, List, [], ◌∷◌, ◌++◌, length, drop, set, ℤ, sym, refl, ap, ◌∙◌, subst, append_assoc, arith, length-append, lt-ltb}
+use Rattle.std.proofs.Common.{◌≡◌, ◌+◌, ◌≤◌, Bool, true, cond, ltb, List, [], ◌∷◌, ◌++◌, length, drop, set, ℤ, sym, refl, ap, ◌∙◌, append_assoc, arith, length-append, lt-ltb}
 use lib.Seq.{set_at}
 use Rattle.std.proofs.lemmas.List.{length_push}
 use Rattle.arrays.specs.Sink.{Filling, lent, put, put_all, written}

@@ -1,10 +1,10 @@
 -- Arrays, entry by entry. Assumes nothing.
-use Rattle.std.proofs.Common.{◌≡◌, ℕ, zero, suc, ◌+◌, ◌<◌, ◌≤◌, Bool, true, false, eqb, List, [], ◌∷◌, ◌++◌, length, drop, ℤ, Some, sym, refl, ap, ◌∙◌, subst, append_assoc, append-nil, add-one, arith}
+use Rattle.std.proofs.Common.{◌≡◌, ℕ, ◌+◌, ◌<◌, ◌≤◌, Bool, true, false, eqb, List, [], ◌∷◌, ◌++◌, length, drop, ℤ, Some, sym, refl, ap, ◌∙◌, subst, append_assoc, append-nil, add-one, arith}
 use Rattle.std.specs.List.{AllByRecursion as All}
 use Rattle.std.proofs.ByRecursion.{All-push}
 use Rattle.std.proofs.lemmas.List.{length_push}
 use Rattle.faults.specs.declared.Fault.{Fault}
-use Rattle.forms.specs.Form.{Form, nothing, ◌then◌, Item, Token, symbol}
+use Rattle.forms.specs.Form.{Form, nothing, ◌then◌, Token, symbol}
 use Rattle.forms.specs.Array.{sign, whole, row, tail, inner, listed, among, parts, array}
 use Rattle.forms.specs.Progress.{ahead, onto, Element}
 use Rattle.forms.proofs.Onto.{shuns, shuns_mark, or_left, or_right, many_on, many_off}

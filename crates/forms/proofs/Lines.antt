@@ -1,10 +1,9 @@
 -- A line says one thing only, and is refused in one way only. Assumes nothing.
-use Rattle.std.proofs.Common.{◌≡◌, ℕ, ◌<◌, ◌≤◌, ◌⊎◌, List, map, length, Some, None, Option, sym, refl, ap, ◌∙◌, subst, inl, inr, ⊎_elim, arith}
+use Rattle.std.proofs.Common.{◌≡◌, ℕ, List, map, Some, None, sym, ap, ◌∙◌, ⊎_elim, arith}
 use Rattle.faults.specs.declared.Fault.{Fault}
-use Rattle.faults.specs.declared.Refusal.{Refusal}
-use Rattle.forms.specs.Form.{Form, Item, Token, Wrong, Denotes, Line}
+use Rattle.forms.specs.Form.{Form, Token, Wrong}
 use Rattle.forms.specs.Range.{first_far}
-use Rattle.forms.specs.Line.{token, Says, Overlong, Misformed, TooFar, Misread}
+use Rattle.forms.specs.Line.{token, Says, TooFar, Misread}
 
 pub same_fault : (f g : Fault) → f.refusal ≡ g.refusal → f.place ≡ g.place → f ≡ g
 same_fault f g p q = λ i. record { refusal = p i; place = q i }

@@ -1,10 +1,10 @@
 -- A number in a line. Assumes nothing.
-use Rattle.std.proofs.Common.{◌≡◌, ℕ, zero, suc, ◌+◌, ◌-◌, ◌*◌, ◌<◌, ◌≤◌, min, ◌⊎◌, List, [], ◌∷◌, ◌++◌, length, get_or, take, drop, ℤ, pos, ◌-ℤ◌, neg_ℤ, nat_abs, Some, None, Option, sym, refl, ap, ◌∙◌, subst, inl, inr, ⊎_elim, append_assoc, append-nil, add-zero, add_assoc, add-one, arith, length-append, take-append-drop, w32, to_z, of_z}
+use Rattle.std.proofs.Common.{◌≡◌, ℕ, zero, suc, ◌+◌, ◌-◌, ◌*◌, ◌<◌, ◌≤◌, min, ◌⊎◌, List, [], ◌∷◌, ◌++◌, length, take, drop, ℤ, pos, ◌-ℤ◌, neg_ℤ, Some, Option, sym, refl, ap, ◌∙◌, subst, inl, inr, ⊎_elim, append_assoc, arith, length-append, take-append-drop, w32, to_z, of_z}
 use Rattle.std.proofs.lemmas.Int.{ints}
 use Rattle.std.proofs.lemmas.List.{take_at, length-take-le}
 use Rattle.forms.specs.Number.{Digit, Digits, Natural, denoted, Integer}
-use Rattle.forms.specs.Form.{Form, byte, number, ◌then◌, ◌or◌, many, figure, Item, item, Point, at, Times, Reads, Ends, Line, Viable, Wrong}
-use Rattle.forms.specs.Progress.{ahead, After, Shuns, DigitFree, NoDigit, DigitsRead, DigitsSoFar}
+use Rattle.forms.specs.Form.{Form, number, ◌then◌, figure, Item, item, Point, at, Reads, Ends, Line, Wrong}
+use Rattle.forms.specs.Progress.{ahead, After, DigitFree, NoDigit, DigitsRead, DigitsSoFar}
 use Rattle.forms.specs.Range.{clip}
 use Rattle.forms.specs.Progress.{is_digit}
 use Rattle.forms.proofs.Steps.{some_end, wrong_at, here, differ}

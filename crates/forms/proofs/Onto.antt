@@ -1,11 +1,11 @@
 -- A form before another, in one row, and the bytes that a form can begin with. Assumes nothing.
-use Rattle.std.proofs.Common.{◌≡◌, ℕ, zero, suc, ◌+◌, ◌<◌, ◌≤◌, Bool, true, false, cond, eqb, leb, ◌⊎◌, List, [], ◌∷◌, ◌++◌, drop, Some, None, Option, sym, refl, ap, ◌∙◌, subst, inl, inr, ⊎_elim, arith, eq-eqb}
+use Rattle.std.proofs.Common.{◌≡◌, ℕ, zero, suc, ◌+◌, ◌<◌, ◌≤◌, Bool, true, false, cond, ◌⊎◌, List, [], ◌∷◌, ◌++◌, drop, Some, None, Option, sym, refl, ap, ◌∙◌, subst, inl, inr, ⊎_elim, arith}
 use Rattle.std.proofs.str.Laws.{order}
-use Rattle.forms.specs.Number.{Digit, Digits, Natural, Integer}
+use Rattle.forms.specs.Number.{Digit, Natural}
 use Rattle.forms.specs.Form.{Form, nothing, byte, mark, number, ◌then◌, ◌or◌, many, Item, Point, at, Times, Reads, Ends, Wrong}
-use Rattle.forms.specs.Array.{blank, blanks, sign}
-use Rattle.forms.specs.Progress.{ahead, After, Shuns, BlankFree, DigitFree, onto, nullable, firsts, from, none, is_blank, is_digit, NoDigit, Blank, BlankNext}
-use Rattle.forms.proofs.Steps.{narrow, many_split, fail, step, step_mark, mark_end, mark_out, byte_end, byte_out, differ}
+use Rattle.forms.specs.Array.{blanks}
+use Rattle.forms.specs.Progress.{ahead, After, Shuns, BlankFree, onto, nullable, firsts, from, none, is_blank, is_digit, NoDigit, Blank, BlankNext}
+use Rattle.forms.proofs.Steps.{narrow, many_split, fail, step, mark_end, mark_out, byte_end, byte_out, differ}
 
 pub flat : (F K : Form) (s : Point) (n : ℕ) → Reads (F then K) s (at n [] []) → Reads (onto F K) s (at n [] [])
 flat nothing K s n x = subst (λ (p : Point). Reads K p (at n [] [])) (sym x.1) x.2

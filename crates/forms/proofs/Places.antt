@@ -1,9 +1,9 @@
 -- The items of a line stand in the line, so the place of a refusal is no greater than the line is long. Assumes nothing.
-use Rattle.std.proofs.Common.{◌≡◌, ℕ, zero, suc, ◌+◌, ◌≤◌, Bool, true, false, cond, ◌⊎◌, List, [], ◌∷◌, ◌++◌, length, ℤ, Some, None, Option, sym, refl, ap, ◌∙◌, subst, inl, inr, ⊎_elim, append_assoc, append-nil, arith, length-append}
+use Rattle.std.proofs.Common.{◌≡◌, ℕ, zero, suc, ◌+◌, ◌≤◌, Bool, true, false, cond, List, [], ◌∷◌, ◌++◌, length, Some, None, Option, sym, ap, ◌∙◌, subst, ⊎_elim, append_assoc, append-nil, arith, length-append}
 use Rattle.faults.specs.declared.Fault.{Fault}
 use Rattle.forms.specs.Form.{Form, nothing, byte, mark, number, ◌then◌, ◌or◌, many, Item, item, Token, figure, symbol, Point, at, Times, Reads, Line}
 use Rattle.forms.specs.Range.{beyond, token_far, earlier, first_far}
-use Rattle.forms.specs.Line.{Overlong, Misformed, TooFar, Misread}
+use Rattle.forms.specs.Line.{Misread}
 
 -- no item stands after n
 abbrev Before : ℕ → List Item → Type 0

@@ -1,5 +1,5 @@
 -- What is printed says what was printed. Assumes nothing.
-use Rattle.std.proofs.Common.{◌≡◌, ℕ, List, [], ◌∷◌, ◌++◌, ℤ, sym, refl, ap, ◌∙◌, append_assoc, append-nil, arith}
+use Rattle.std.proofs.Common.{◌≡◌, ℕ, List, [], ◌∷◌, ◌++◌, ℤ, sym, refl, ◌∙◌, append_assoc, append-nil, arith}
 use Rattle.forms.specs.Form.{Token, figure, symbol}
 use Rattle.forms.specs.Array.{among, parts, array, single, row_tokens}
 

@@ -1,15 +1,13 @@
 -- The rule of the counts on a hierarchy's tables says the same as on its contents. Assumes nothing.
-use Rattle.std.proofs.Common.{◌≡◌, ℕ, zero, suc, ◌+◌, ◌*◌, ◌<◌, ◌≤◌, List, [], ◌∷◌, ◌++◌, length, ℤ, pos, ◌+ℤ◌, ◌≤ℤ◌, sym, refl, ap, ◌∙◌, subst, add_comm, mul-zero, mul-suc, mul-add, arith, length-append}
+use Rattle.std.proofs.Common.{◌≡◌, ℕ, zero, suc, ◌+◌, ◌*◌, ◌≤◌, List, [], ◌∷◌, ◌++◌, length, ℤ, pos, ◌+ℤ◌, ◌≤ℤ◌, sym, refl, ap, ◌∙◌, subst, add_comm, mul-zero, mul-suc, mul-add, arith, length-append}
 use Rattle.std.specs.List.{AllByRecursion as All}
 use Rattle.std.proofs.lemmas.Int.{ints}
 use Rattle.arrays.specs.Sink.{flat}
 use Rattle.arrays.specs.Listing.{Long}
-use Rattle.tables.specs.Contents.{Fit, VerticesFit, CellsFit, ReplacementsFit, TakenFit}
+use Rattle.tables.specs.Contents.{Fit}
 use Rattle.tables.specs.Kind.{corners_of}
-use Rattle.tables.specs.Tables.{Counted, VerticesCounted, CellsCounted, ReplacementsCounted, TakenCounted, NotNegative, total, counts_taken, counts_made}
+use Rattle.tables.specs.Tables.{Counted, NotNegative, total, counts_taken, counts_made}
 use Rattle.tables.specs.declared.contents.Places.{Places}
-use Rattle.tables.specs.declared.kind.CellKind.{CellKind}
-use Rattle.tables.specs.declared.kind.CellKind.TheVariants.{Segment, Triangle}
 use Rattle.hierarchypass.specs.Line.{Hierarchy, Replacement, Shaped, Made, made_corners, records, all_taken, made_count, taken_count, contents_of, tables_of}
 
 flat_long : (n : ℕ) (x : List (List ℤ)) → All (Long n) x → length (flat x) ≡ n * length x

@@ -1,10 +1,9 @@
 -- What reading a hierarchy line comes to, and that it comes to one thing only. Assumes nothing.
-use Rattle.std.proofs.Common.{◌≡◌, ℕ, ◌<◌, ◌≤◌, ◌⊎◌, List, length, ℤ, Ok, Err, Result, sym, refl, ap, ◌∙◌, subst, inl, inr, ⊎_elim, arith, MatchResult}
-use Rattle.std.proofs.str.Laws.{order}
+use Rattle.std.proofs.Common.{◌≡◌, ℕ, ◌⊎◌, List, ℤ, Ok, Err, Result, sym, ap, ◌∙◌, subst, ⊎_elim, arith, MatchResult}
 use Rattle.faults.specs.declared.Fault.{Fault}
 use Rattle.forms.specs.Line.{Misread}
 use Rattle.forms.proofs.Lines.{same_fault, says_or_not, misread_once}
-use Rattle.arrays.specs.Sink.{Filling, lent, written}
+use Rattle.arrays.specs.Sink.{lent}
 use Rattle.arrays.proofs.Filled.{filled}
 use Rattle.tables.specs.Contents.{Fit, OffLimits}
 use Rattle.tables.specs.Judging.{Clear, First}
@@ -13,7 +12,7 @@ use Rattle.tables.specs.Tables.{Counted, VerticesCounted, CellsCounted, Replacem
 use Rattle.tables.specs.declared.contents.Contents.{Contents}
 use Rattle.tables.specs.declared.contents.Places.{Places}
 use Rattle.tables.proofs.First.{first_once, first_or_clear}
-use Rattle.hierarchypass.specs.Line.{Hierarchy, hierarchy, LineOf, Shaped, tables_of, contents_of}
+use Rattle.hierarchypass.specs.Line.{Hierarchy, hierarchy, tables_of, contents_of}
 use Rattle.hierarchypass.specs.Passing.{Fillings, fillings, with_tables, LinePassed}
 use Rattle.hierarchylines.specs.Reading.{LineHolds, Lists, lists, places_of, all_written, CountedIn, HierarchyRead, HierarchyOffLimits, HierarchyReading, HierarchyReadOnce}
 use Rattle.hierarchylines.proofs.Counts.{counted, fits}

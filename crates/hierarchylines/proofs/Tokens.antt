@@ -1,5 +1,5 @@
 -- What a hierarchy says is said by no other. Assumes nothing.
-use Rattle.std.proofs.Common.{◌≡◌, ℕ, ◌+◌, List, [], ◌∷◌, ◌++◌, ℤ, sym, refl, ap, ◌∙◌, append_assoc, arith}
+use Rattle.std.proofs.Common.{◌≡◌, ℕ, ◌+◌, List, [], ◌∷◌, ◌++◌, ℤ, sym, refl, ◌∙◌, append_assoc, arith}
 use Rattle.forms.specs.Form.{Token, figure, symbol}
 use Rattle.forms.specs.Array.{array, single, row_tokens}
 use Rattle.forms.proofs.Lines.{says_once}

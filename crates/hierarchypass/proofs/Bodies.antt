@@ -17,7 +17,7 @@ use Rattle.arrays.proofs.Lists.{puts-append}
 use Rattle.tables.specs.Kind.{corners_of}
 use Rattle.tables.specs.declared.contents.Contents.{Contents}
 use Rattle.tables.specs.declared.kind.CellKind.{CellKind}
-use Rattle.hierarchypass.specs.Line.{Hierarchy, hierarchy, Shaped, Made, replacement, replacement_tokens, body, kinds, body_tokens, tokens, made_corners, made_count, taken_count, contents_of, tables_of}
+use Rattle.hierarchypass.specs.Line.{Hierarchy, hierarchy, Shaped, Made, replacement, body, kinds, body_tokens, tokens, made_corners, made_count, taken_count, contents_of, tables_of}
 use Rattle.hierarchypass.specs.Passing.{Growth, growth, ReplacementsKept, Fillings, fillings, with_tables, KindPassed, BodyPassed, LinePassed}
 use Rattle.hierarchypass.proofs.Sizes.{array_long, array_size}
 

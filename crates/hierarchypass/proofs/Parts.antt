@@ -1,9 +1,9 @@
 -- A replacement, part by part. Assumes nothing.
-use Rattle.std.proofs.Common.{◌≡◌, ℕ, ◌+◌, ◌≤◌, List, [], ◌∷◌, ◌++◌, length, ℤ, pos, sym, refl, ap, ◌∙◌, arith}
+use Rattle.std.proofs.Common.{◌≡◌, ℕ, ◌+◌, ◌≤◌, length, pos, sym, refl, ap, ◌∙◌, arith}
 use Rattle.faults.specs.declared.Fault.{Fault}
 use Rattle.forms.specs.Form.{Form, ◌then◌}
 use Rattle.forms.specs.Array.{sign, whole, listed, row, single, row_tokens}
-use Rattle.forms.specs.Progress.{onto, Element}
+use Rattle.forms.specs.Progress.{Element}
 use Rattle.scanner.specs.Scanner.{text, Passed, Missed, Lost}
 use Rattle.scanner.specs.declared.Scanner.{Scanner}
 use Rattle.scanner.proofs.Steps.{step_on, lost_after, lost_by, lost_first, lost_before, step_before, mark_step, mark_last}

@@ -1,11 +1,11 @@
 -- A text has at least as many tokens as entries, so no count exceeds its bytes. Assumes nothing.
-use Rattle.std.proofs.Common.{◌≡◌, ℕ, ◌+◌, ◌<◌, ◌≤◌, List, [], ◌∷◌, ◌++◌, length, ℤ, sym, refl, ap, ◌∙◌, add-zero, add_assoc, arith, length-append}
+use Rattle.std.proofs.Common.{◌≡◌, ℕ, ◌+◌, ◌<◌, ◌≤◌, List, [], ◌∷◌, ◌++◌, length, sym, ap, ◌∙◌, add-zero, add_assoc, arith, length-append}
 use Rattle.forms.specs.Form.{Token, symbol}
 use Rattle.forms.specs.Array.{among, parts, array, single, row_tokens}
 use Rattle.scanner.specs.Scanner.{text}
 use Rattle.scanner.specs.declared.Scanner.{Scanner}
-use Rattle.arrays.specs.Sink.{Filling, put, puts, put_all, put_rows, flat}
-use Rattle.arrays.specs.Listing.{Listing, Kept}
+use Rattle.arrays.specs.Sink.{Filling, put, puts, flat}
+use Rattle.arrays.specs.Listing.{Listing}
 use Rattle.arrays.proofs.Lists.{puts-append}
 use Rattle.hierarchypass.specs.Line.{Replacement, replacement, replacement_tokens, Made, made_corners, record_of, records, all_taken, made_count, taken_count}
 use Rattle.hierarchypass.specs.Passing.{Growth, growth, with_replacement, with_replacements}

@@ -1,10 +1,10 @@
 -- What a pass over a part of a hierarchy line comes to. Assumes nothing.
-use Rattle.std.specs.Prelude.{◌≡◌, ℕ, ◌+◌, List, [], ◌∷◌, length, ℤ}
+use Rattle.std.specs.Prelude.{◌≡◌, ℕ, ◌+◌, List, [], ◌∷◌, length}
 use Rattle.std.specs.List.{AllByRecursion as All}
 use Rattle.forms.specs.Array.{array, listed}
 use Rattle.forms.specs.Form.{nothing, symbol}
 use Rattle.arrays.specs.Sink.{Filling, put_all, put_rows}
-use Rattle.arrays.specs.Listing.{Long, Kept}
+use Rattle.arrays.specs.Listing.{Kept}
 use Rattle.scanner.specs.Scanner.{Step}
 use Rattle.scanner.specs.declared.Scanner.{Scanner}
 use Rattle.tables.specs.Kind.{corners_of}

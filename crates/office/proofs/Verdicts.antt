@@ -1,16 +1,15 @@
 -- The number that the order form is told. Assumes nothing.
-use mathlib.Core.Path.{◌≡◌, sym, ap, ◌∙◌}
-use mathlib.Core.Logic.{inl, inr, ⊎_elim}
+use mathlib.Core.Path.{sym, ap, ◌∙◌}
+use mathlib.Core.Logic.{⊎_elim}
 use mathlib.Core.List.{List}
 use Prim.Native.Nat.{ℕ, ◌≤◌}
 use native.Mathlib.Omega.{arith}
 use Rattle.faults.specs.Number.{number_of}
 use Rattle.faults.specs.declared.Fault.{Fault}
-use Rattle.faults.specs.declared.Refusal.{Refusal}
 use Rattle.forms.specs.Form.{Form}
 use Rattle.forms.specs.Line.{Misread}
 use Rattle.forms.proofs.Lines.{says_or_not, misread_once}
-use Rattle.office.specs.Verdict.{code, Verdict, OneVerdict}
+use Rattle.office.specs.Verdict.{code, OneVerdict}
 
 -- the refusals that a line can meet have numbers up to 18
 pub number_in : {L : Form} {bs : List ℕ} {f : Fault} → Misread L bs f → number_of f.refusal ≤ 18

@@ -1,13 +1,13 @@
 -- Order lines: what a pass over one comes to, and that an order line has one list of values. Assumes nothing.
-use Rattle.std.proofs.Common.{◌≡◌, ℕ, ◌<◌, ◌≤◌, ◌⊎◌, List, length, ℤ, Ok, Err, Result, sym, refl, ap, ◌∙◌, subst, inl, inr, ⊎_elim, arith, MatchResult}
+use Rattle.std.proofs.Common.{◌≡◌, ℕ, ◌<◌, ◌≤◌, ◌⊎◌, List, length, ℤ, Ok, Err, Result, sym, ap, ◌∙◌, subst, ⊎_elim, arith, MatchResult}
 use Rattle.faults.specs.declared.Fault.{Fault}
-use Rattle.forms.specs.Array.{array, single}
+use Rattle.forms.specs.Array.{single}
 use Rattle.forms.specs.Line.{Misread}
 use Rattle.forms.proofs.Lines.{same_fault, says_once, says_or_not, misread_once}
 use Rattle.forms.proofs.Printing.{array_only, single_sharp}
 use Rattle.arrays.specs.Sink.{Filling, lent, written}
 use Rattle.arrays.proofs.Filled.{filled}
-use Rattle.orderlines.specs.Order.{order, Order, OrderOf, OrderChecked, OrderRead, OrderOffLimits, OrderReading, OrderPassed, OrderCheckedOnce, OrderReadOnce}
+use Rattle.orderlines.specs.Order.{order, Order, OrderOf, OrderRead, OrderOffLimits, OrderReading, OrderPassed, OrderCheckedOnce, OrderReadOnce}
 
 pub one_order : {bs : List ℕ} (v w : List ℤ) → Order bs v → Order bs w → v ≡ w
 one_order v w x y = array_only single single_sharp v w (says_once x y)

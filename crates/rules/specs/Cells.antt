@@ -1,6 +1,6 @@
 -- The cells of raw tables, by their numbers: the base cells, and the cells that each replacement makes and takes. Replacements are counted
 -- from 1. Assumes nothing.
-use Rattle.std.specs.Prelude.{ℕ, ◌-◌, Bool, false, ◌&&◌, ◌||◌, List, [], ◌∷◌, map, ℤ, nat_eq, nat_le, unsigned_abs}
+use Rattle.std.specs.Prelude.{ℕ, ◌-◌, Bool, false, ◌&&◌, ◌||◌, List, [], ◌∷◌, map, nat_eq, nat_le, unsigned_abs}
 use Rattle.std.specs.List.{range_with_len, flat_map}
 use Rattle.kinds.specs.declared.kind.Signed.{Signed}
 use Rattle.kinds.specs.Shapes.{Shape}

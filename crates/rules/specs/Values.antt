@@ -1,6 +1,6 @@
 -- The rules on the numbers in the tables, place by place. Vertices and cells are counted from 0, replacements from 1, so record n − 1 is
 -- that of replacement n. Assumes nothing.
-use Rattle.std.specs.Prelude.{◌≡◌, ℕ, ◌+◌, ◌-◌, ◌*◌, ◌/◌, Bool, true, List, length, ℤ, pos, negsuc, ◌≤ℤ◌, ◌<ℤ◌}
+use Rattle.std.specs.Prelude.{◌≡◌, ℕ, ◌-◌, ◌/◌, Bool, true, List, length, ℤ, pos, negsuc, ◌≤ℤ◌, ◌<ℤ◌}
 use Rattle.std.specs.List.{AllByRecursion as All}
 use Rattle.tables.specs.Tables.{Tables}
 use Rattle.rules.specs.Raw.{field, cell}

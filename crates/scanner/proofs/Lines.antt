@@ -5,7 +5,7 @@ use Rattle.forms.specs.Form.{Form, nothing, ◌then◌, Item, Point, Token, Wron
 use Rattle.forms.specs.Array.{blanks}
 use Rattle.forms.specs.Progress.{After, onto, BlankFree}
 use Rattle.forms.specs.Range.{earlier, first_far}
-use Rattle.forms.specs.Line.{Says, Overlong, Misread}
+use Rattle.forms.specs.Line.{Says, Misread}
 use Rattle.forms.proofs.Range.{said_near}
 use Rattle.forms.proofs.Steps.{start, done, all_read, ahead_at}
 use Rattle.forms.proofs.Onto.{open_end, shuns, stuck}

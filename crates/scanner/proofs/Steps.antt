@@ -1,10 +1,10 @@
 -- A scanner's steps, one after the other. Assumes nothing.
-use Rattle.std.proofs.Common.{◌≡◌, ℕ, ◌+◌, ◌<◌, ◌≤◌, Bool, cond, List, [], ◌∷◌, ◌++◌, map, length, ℤ, Some, None, Option, sym, refl, ap, ◌∙◌, subst, append_assoc, append-nil, arith, length-append}
+use Rattle.std.proofs.Common.{◌≡◌, ℕ, Bool, cond, List, [], ◌∷◌, ◌++◌, length, ℤ, Some, None, Option, sym, refl, ap, ◌∙◌, subst, append_assoc, append-nil, arith, length-append}
 use mathlib.Core.List.{map-append}
 use Rattle.faults.specs.declared.Fault.{Fault}
 use Rattle.forms.specs.Form.{Form, nothing, ◌then◌, Item, item, Token, figure, symbol, Wrong}
 use Rattle.forms.specs.Array.{sign, whole, blanks}
-use Rattle.forms.specs.Progress.{After, onto, BlankFree, DigitFree, Apt}
+use Rattle.forms.specs.Progress.{After, onto, BlankFree, Apt}
 use Rattle.forms.specs.Range.{said, far, earlier, first_far}
 use Rattle.forms.proofs.Range.{earlier_none, earlier_assoc, first_far_append, clip_far}
 use Rattle.scanner.specs.Scanner.{text, Step, Skipped, Passed, Numbered, Missed, Lost}

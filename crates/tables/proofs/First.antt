@@ -1,5 +1,5 @@
 -- A rule is broken first at one place only, and nowhere where it is clear. Assumes nothing.
-use Rattle.std.proofs.Common.{◌≡◌, ℕ, ◌<◌, ◌≤◌, ⊎_elim, arith}
+use Rattle.std.proofs.Common.{◌≡◌, ℕ, ◌<◌, ⊎_elim, arith}
 use Rattle.std.proofs.str.Laws.{order}
 use Rattle.tables.specs.Judging.{Clear, First}
 

@@ -1,5 +1,5 @@
 -- Tables of rules are judged in one way only. Assumes nothing.
-use Rattle.std.proofs.Common.{◌≡◌, List, [], ◌∷◌, sym, ◌∙◌, inl, inr, ⊎_elim}
+use Rattle.std.proofs.Common.{◌≡◌, List, [], ◌∷◌, sym, ◌∙◌, ⊎_elim}
 use Rattle.faults.specs.declared.Fault.{Fault}
 use Rattle.tables.specs.Judging.{Row, Lawful, Refused}
 use Rattle.tables.proofs.First.{first_or_clear, first_once}

@@ -1,4 +1,4 @@
-use Rattle.std.proofs.Common.{◌≡◌, ℕ, length, subst, inl, inr}
+use Rattle.std.proofs.Common.{ℕ, subst, inl, inr}
 use Rattle.faults.proofs.Exits.{passed_on}
 use Rattle.tables.specs.Judging.{Clear}
 use Rattle.tables.specs.Tables.{Counted, own_places}

@@ -1,4 +1,4 @@
-use Rattle.std.proofs.Common.{◌≡◌, Ok, Err, Result, refl, ap}
+use Rattle.std.proofs.Common.{Ok, Err, Result, refl, ap}
 use Rattle.faults.specs.declared.Fault.{Fault}
 use Rattle.tables.proofs.Rows.{lawful_or_refused, refused_once}
 use Rattle.rules.specs.Rows.{rows, JudgedOnce}

@@ -1,4 +1,4 @@
-use Rattle.std.proofs.Common.{◌≡◌, ℤ, refl, ap, ◌∙◌, w32, SFits, rules}
+use Rattle.std.proofs.Common.{ℤ, refl, ap, ◌∙◌, w32, SFits, rules}
 use Rattle.std.proofs.lemmas.Int.{to_z-of_z}
 use Rattle.faults.proofs.Exits.{passed_on}
 use Rattle.arrays.specs.Sink.{filling, put}

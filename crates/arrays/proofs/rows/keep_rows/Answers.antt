@@ -1,4 +1,4 @@
-use Rattle.std.proofs.Common.{◌≡◌, ◌+◌, ◌≤◌, length, refl, ap, arith, rules}
+use Rattle.std.proofs.Common.{◌+◌, ◌≤◌, length, refl, ap, arith, rules}
 use Rattle.forms.specs.Form.{◌then◌}
 use Rattle.forms.specs.Array.{row, inner, tail, row_tokens}
 use Rattle.scanner.specs.Scanner.{Step}

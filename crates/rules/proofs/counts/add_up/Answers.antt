@@ -1,10 +1,9 @@
-use Rattle.std.proofs.Common.{◌≡◌, ℕ, ◌+◌, ◌<◌, ◌≤◌, List, length, get_or, take, ℤ, pos, ◌+ℤ◌, sym, ◌∙◌, subst, arith}
+use Rattle.std.proofs.Common.{◌≡◌, ◌+◌, ◌<◌, List, length, get_or, take, ℤ, pos, ◌+ℤ◌, subst, arith}
 use Rattle.std.specs.List.{AllByRecursion as All}
 use Rattle.std.proofs.ByRecursion.{All-get_or, All-more}
 use Rattle.std.proofs.lemmas.List.{take_all}
 use Rattle.std.proofs.lemmas.Int.{ints}
 use Rattle.tables.specs.Tables.{column, total, NotNegative}
-use Rattle.rules.specs.Counts.{AddsUp}
 use Rattle.rules.specs.Raw.{field}
 use Rattle.rules.proofs.Sums.{column_long, column_at, total_more, total_natural, total_part}
 use Rattle.rules.proofs.counts.add_up.Goals as goal

@@ -1,4 +1,4 @@
-use Rattle.std.proofs.Common.{◌≡◌, ◌≤◌, arith}
+use Rattle.std.proofs.Common.{◌≤◌, arith}
 use Rattle.rules.specs.Raw.{lists_of}
 use Rattle.rules.specs.Ranges.{EarlierKept}
 use Rattle.rules.proofs.Growing.{before_more, kept_here, clear_more}

@@ -1,4 +1,4 @@
-use Rattle.std.proofs.Common.{◌≡◌, ◌^◌, ◌<◌, length, rules}
+use Rattle.std.proofs.Common.{◌^◌, ◌<◌, length, rules}
 use Rattle.rules.proofs.Clamped.{same_stretch}
 use Rattle.rules.proofs.earlier.stretch.Goals as goal
 

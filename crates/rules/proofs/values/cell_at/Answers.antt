@@ -1,4 +1,4 @@
-use Rattle.std.proofs.Common.{◌≡◌, ◌^◌, ◌<◌, length, rules}
+use Rattle.std.proofs.Common.{◌^◌, ◌<◌, length, rules}
 use Rattle.rules.proofs.Clamped.{same_cell}
 use Rattle.rules.proofs.values.cell_at.Goals as goal
 

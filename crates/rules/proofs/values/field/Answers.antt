@@ -1,4 +1,4 @@
-use Rattle.std.proofs.Common.{◌≡◌, ℕ, ◌+◌, ◌-◌, ◌^◌, ◌<◌, min, length, ap, ◌∙◌, w32, SFits, rules}
+use Rattle.std.proofs.Common.{◌^◌, ◌<◌, length, ◌∙◌, w32, SFits, rules}
 use Rattle.std.proofs.lemmas.Int.{to_z-of_z}
 use Rattle.rules.proofs.Clamped.{same_field}
 use Rattle.rules.proofs.values.field.Goals as goal

@@ -1,4 +1,4 @@
-use Rattle.std.proofs.Common.{◌≡◌, ◌-◌, ◌≤◌, List, length}
+use Rattle.std.proofs.Common.{◌≡◌, ◌-◌, ◌≤◌, length}
 use Rattle.forms.specs.Progress.{DigitsSoFar}
 use Rattle.scanner.proofs.Scanner.digits.Given as goal
 

@@ -1,4 +1,4 @@
-use Rattle.std.proofs.Common.{◌≡◌, ℕ, ◌+◌, List, sym, refl, ◌∙◌, subst, arith}
+use Rattle.std.proofs.Common.{sym, refl, subst, arith}
 use Rattle.forms.specs.Form.{Wrong}
 use Rattle.forms.proofs.Onto.{stuck, shuns_number}
 use Rattle.faults.proofs.Exits.{passed_on}

@@ -1,4 +1,4 @@
-use Rattle.std.proofs.Common.{◌≡◌, [], ◌∷◌, ℤ, sym, ap, ◌∙◌, subst, w32, SFits, rules}
+use Rattle.std.proofs.Common.{[], ◌∷◌, ℤ, sym, ap, ◌∙◌, subst, w32, SFits, rules}
 use Rattle.std.proofs.lemmas.Int.{to_z-of_z}
 use Rattle.forms.specs.Array.{blanks, whole}
 use Rattle.forms.specs.Range.{earlier, far}

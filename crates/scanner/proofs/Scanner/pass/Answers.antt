@@ -1,4 +1,4 @@
-use Rattle.std.proofs.Common.{length, sym, refl, ap, subst, arith}
+use Rattle.std.proofs.Common.{sym, refl, subst, arith}
 use Rattle.forms.specs.Form.{Wrong, ◌then◌}
 use Rattle.forms.specs.Array.{blanks}
 use Rattle.forms.proofs.Steps.{step_mark}
