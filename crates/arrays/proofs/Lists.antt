@@ -1,6 +1,6 @@
 -- Arrays, entry by entry. Assumes nothing.
 use Rattle.std.proofs.Common.{◌≡◌, ℕ, ◌+◌, ◌<◌, ◌≤◌, Bool, true, false, eqb, List, [], ◌∷◌, ◌++◌, length, drop, ℤ, Some, sym, refl, ap, ◌∙◌, subst, append_assoc, append-nil, add-one, arith}
-use Rattle.std.specs.List.{AllByRecursion as All}
+use Rattle.std.specs.List.{AllByRecursion}
 use Rattle.std.proofs.ByRecursion.{All-push}
 use Rattle.std.proofs.lemmas.List.{length_push}
 use Rattle.faults.specs.declared.Fault.{Fault}
@@ -105,7 +105,7 @@ module _ {A S : Type 0} {P : A → Type 0} {print : A → List Token} {keep : A 
     pub entry_lost : {f : Fault} → Lost u F f → Lost r (inner F) f
     entry_lost x = lost_after (step_on l.step goes) (lost_before (tail F) (λ K apt. (refl, refl)) x)
 
-  pub listing_end : {o r s u : Scanner} {count : ℕ} {before after : S} → Passed o r 91 → Listing P print keep F r s count before after → Step s u (rest count F) nothing (symbol 93 ∷ []) → Kept (λ x. (length x ≡ count) × All P x) (array print) (puts keep) (listed F) o u before after
+  pub listing_end : {o r s u : Scanner} {count : ℕ} {before after : S} → Passed o r 91 → Listing P print keep F r s count before after → Step s u (rest count F) nothing (symbol 93 ∷ []) → Kept (λ x. (length x ≡ count) × AllByRecursion P x) (array print) (puts keep) (listed F) o u before after
   listing_end p l goes =
       record {
         value = l.values;

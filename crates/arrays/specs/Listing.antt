@@ -1,6 +1,6 @@
 -- Values and arrays of values that are read and kept. Assumes nothing.
 use Rattle.std.specs.Prelude.{◌≡◌, ℕ, zero, suc, ◌+◌, ◌-◌, ◌≤◌, Bool, true, false, List, [], ◌∷◌, length, ℤ, Result, MatchResult}
-use Rattle.std.specs.List.{AllByRecursion as All}
+use Rattle.std.specs.List.{AllByRecursion}
 use Rattle.faults.specs.declared.Fault.{Fault}
 use Rattle.forms.specs.Form.{Form, nothing, ◌then◌, Token, symbol}
 use Rattle.forms.specs.Array.{whole, tail, inner, listed, row, row_left, columns, parts, array, single, row_tokens}
@@ -29,7 +29,7 @@ lead (suc n) = symbol 44 ∷ []
 pub record Listing {A S : Type 0} (P : A → Type 0) (print : A → List Token) (keep : A → S → S) (F : Form) (r s : Scanner) (count : ℕ) (before after : S) : Type 0 where
   pub values : List A
   pub counts : length values ≡ count
-  pub each : All P values
+  pub each : AllByRecursion P values
   pub step : Step r s (inner F) (rest count F) (parts print values)
   pub few : r.at + count ≤ s.at
   pub inside : s.at ≤ length (text r)
@@ -53,7 +53,7 @@ Long n x = length x ≡ n
 
 -- so many rows of n
 abbrev pub Rows : ℕ → ℕ → List (List ℤ) → Type 0
-Rows n count x = (length x ≡ count) × All (Long n) x
+Rows n count x = (length x ≡ count) × AllByRecursion (Long n) x
 
 -- a number, an array of so many numbers, a row of n numbers, an array of so many such rows
 abbrev pub NumberKept : Scanner → Scanner → Filling → Filling → Type 0

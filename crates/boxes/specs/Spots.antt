@@ -1,6 +1,6 @@
 -- Points in space at whole numbers, and the boxes around them. Assumes nothing.
 use Rattle.std.specs.Prelude.{◌≡◌, ◌+◌, ◌*◌, ◌<◌, true, cond, List, length, ℤ, pos, negsuc, ◌≤ℤ◌, is_some, Some, None, Option, MatchOption, nat_lt, slice_index_or}
-use Rattle.std.specs.List.{AllByRecursion as All}
+use Rattle.std.specs.List.{AllByRecursion}
 use Rattle.boxes.specs.declared.extent.Extent.{Extent}
 use Rattle.boxes.specs.declared.spot.Spot.{Spot}
 
@@ -23,7 +23,7 @@ pub record Inside (b d : Extent) : Type 0 where
 
 -- the box has each of these vertices in it; so each number is a vertex
 abbrev pub Surrounds : List ℤ → List ℤ → Extent → Type 0
-Surrounds vs zs b = All (λ z. MatchOption (spot vs z) ⊥ (Contains b)) zs
+Surrounds vs zs b = AllByRecursion (λ z. MatchOption (spot vs z) ⊥ (Contains b)) zs
 
 -- the smallest box around these vertices: it has them in it, and lies within every box that has
 pub record Smallest (vs zs : List ℤ) (b : Extent) : Type 0 where
@@ -33,7 +33,7 @@ pub record Smallest (vs zs : List ℤ) (b : Extent) : Type 0 where
 -- there is one vertex or more, and each number is a vertex
 pub record Spotted (vs zs : List ℤ) : Type 0 where
   pub one : 0 < length zs
-  pub all : All (λ z. is_some (spot vs z) ≡ true) zs
+  pub all : AllByRecursion (λ z. is_some (spot vs z) ≡ true) zs
 
 -- the smallest box with a box and a point in it
 pub record Widened (b : Extent) (p : Spot) (r : Extent) : Type 0 where

@@ -5,7 +5,7 @@ use Rattle.std.proofs.ByRecursion.{All-append, All-get_or, All-weaker}
 use Rattle.std.proofs.lemmas.List.{get_or-take, get_or-drop, length-append, length-take, length-take-le, length-drop}
 use Rattle.std.proofs.lemmas.Int.{ints}
 use Rattle.std.proofs.lemmas.Bool.{cases_lt, lt-ltb}
-use Rattle.std.specs.List.{range_with_len, flat_map, AllByRecursion as All}
+use Rattle.std.specs.List.{range_with_len, flat_map, AllByRecursion}
 use Rattle.boxes.specs.declared.spot.Spot.{Spot}
 use Rattle.boxes.specs.Spots.{spot, Spotted}
 use Rattle.kinds.specs.Shapes.{Shape}
@@ -29,7 +29,7 @@ use Rattle.hierarchy.specs.Derived.{made_corners, RimsFit, BoxReady, BoxesReady}
 wider : (z : ℤ) (a b : ℕ) → a ≤ b → Numbered a z → Numbered b z
 wider z a b le h = (h.0, omega (arith, ints, h.1))
 
-all_wider : (a b : ℕ) → a ≤ b → (zs : List ℤ) → All (Numbered a) zs → All (Numbered b) zs
+all_wider : (a b : ℕ) → a ≤ b → (zs : List ℤ) → AllByRecursion (Numbered a) zs → AllByRecursion (Numbered b) zs
 all_wider a b le zs h = All-weaker (Numbered a) (Numbered b) (λ z x. wider z a b le x) zs h
 
 above_none : (z : ℤ) → pos 0 <ℤ z → 0 < nat_abs z
@@ -91,7 +91,7 @@ module _ {F P : Type 0} (k : Shape F P) (t : Tables) (p : Places) (some : 0 < k.
   takes i h = (grows i h).0
 
   -- ---- taken numbers
-  lists_known : (n : ℕ) → 1 ≤ n → n ≤ reps → All (Numbered (cells_made t)) (taken_by t n)
+  lists_known : (n : ℕ) → 1 ≤ n → n ≤ reps → AllByRecursion (Numbered (cells_made t)) (taken_by t n)
   lists_known n low high = all_wider (first_made t n) (cells_made t) (omega (arith, before_rises 2 t.replacements (n - 1) reps (omega arith))) (taken_by t n) (plain.earlier n low (omega arith))
 
   -- the list in which a place stands
@@ -115,7 +115,7 @@ module _ {F P : Type 0} (k : Shape F P) (t : Tables) (p : Places) (some : 0 < k.
       let long : length (take count xs) ≡ count = length-take-le count xs (omega (arith, length-drop from t.taken)) in
       let q : ℕ = j - from in
       let place : from + q ≡ j = omega (arith, o.2) in
-      let here : All (Numbered (cells_made t)) (take count xs) = subst (λ (m : ℕ). All (Numbered (cells_made t)) (take (count_of 1 t.replacements m) (drop (before 1 t.replacements m) t.taken))) e (lists_known (i + 1) (omega arith) (omega (arith, o.1))) in
+      let here : AllByRecursion (Numbered (cells_made t)) (take count xs) = subst (λ (m : ℕ). AllByRecursion (Numbered (cells_made t)) (take (count_of 1 t.replacements m) (drop (before 1 t.replacements m) t.taken))) e (lists_known (i + 1) (omega arith) (omega (arith, o.1))) in
       let lt : q < count = omega (arith, o.2, o.3) in
       subst (Numbered (cells_made t)) (get_or-take count xs q (pos 0) lt ∙ get_or-drop from t.taken q (pos 0) ∙ ap (at t.taken) place)
       (All-get_or (Numbered (cells_made t)) (take count xs) q (pos 0) (omega arith) here)
@@ -132,12 +132,12 @@ module _ {F P : Type 0} (k : Shape F P) (t : Tables) (p : Places) (some : 0 < k.
       let twice : 2 * cells_in a t ≤ room / a = (le-div_iff_mul-le some).1 (omega (arith, whole, wide, mul_comm (2 * cells_in a t) a, mul-add a (cells_in a t) (cells_in a t))) in
       record {
         made = within;
-        known = subst (λ (m : ℕ). All (Numbered m) (taken_by t n)) adds_up (lists_known n r.0 r.1);
+        known = subst (λ (m : ℕ). AllByRecursion (Numbered m) (taken_by t n)) adds_up (lists_known n r.0 r.1);
         few = omega arith;
       }
 
   -- ---- boxes
-  run_numbered : (c m : ℕ) → c + m ≤ cells_in a t → All (Numbered (length t.coordinates / 3)) (flat_map (cell a t.corners) (range_with_len c m))
+  run_numbered : (c m : ℕ) → c + m ≤ cells_in a t → AllByRecursion (Numbered (length t.coordinates / 3)) (flat_map (cell a t.corners) (range_with_len c m))
   run_numbered c zero h = tt
   run_numbered c (suc m) h =
       All-append (Numbered (length t.coordinates / 3)) (cell a t.corners c) (flat_map (cell a t.corners) (range_with_len (c + 1) m)) (plain.corners c (omega arith) (omega arith)) (run_numbered (c + 1) m (omega arith))

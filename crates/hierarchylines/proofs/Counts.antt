@@ -1,6 +1,6 @@
 -- The rule of the counts on a hierarchy's tables says the same as on its contents. Assumes nothing.
 use Rattle.std.proofs.Common.{◌≡◌, ℕ, zero, suc, ◌+◌, ◌*◌, ◌≤◌, List, [], ◌∷◌, ◌++◌, length, ℤ, pos, ◌+ℤ◌, ◌≤ℤ◌, sym, refl, ap, ◌∙◌, subst, add_comm, mul-zero, mul-suc, mul-add, arith, length-append}
-use Rattle.std.specs.List.{AllByRecursion as All}
+use Rattle.std.specs.List.{AllByRecursion}
 use Rattle.std.proofs.lemmas.Int.{ints}
 use Rattle.arrays.specs.Sink.{flat}
 use Rattle.arrays.specs.Listing.{Long}
@@ -10,11 +10,11 @@ use Rattle.tables.specs.Tables.{Counted, NotNegative, total, counts_taken, count
 use Rattle.tables.specs.declared.contents.Places.{Places}
 use Rattle.hierarchypass.specs.Line.{Hierarchy, Replacement, Shaped, Made, made_corners, records, all_taken, made_count, taken_count, contents_of, tables_of}
 
-flat_long : (n : ℕ) (x : List (List ℤ)) → All (Long n) x → length (flat x) ≡ n * length x
+flat_long : (n : ℕ) (x : List (List ℤ)) → AllByRecursion (Long n) x → length (flat x) ≡ n * length x
 flat_long n [] h = sym (mul-zero n)
 flat_long n (y ∷ x) h = length-append y (flat x) ∙ (λ i. h.0 i + flat_long n x h.1 i) ∙ add_comm n (n * length x) ∙ sym (mul-suc n (length x))
 
-made_long : (n : ℕ) (rs : List Replacement) → All (Made n) rs → length (made_corners rs) ≡ n * made_count rs
+made_long : (n : ℕ) (rs : List Replacement) → AllByRecursion (Made n) rs → length (made_corners rs) ≡ n * made_count rs
 made_long n [] h = sym (mul-zero n)
 made_long n (r ∷ rs) h = length-append (flat r.made) (made_corners rs) ∙ (λ i. flat_long n r.made h.0 i + made_long n rs h.1 i) ∙ sym (mul-add n (length r.made) (made_count rs))
 
@@ -27,11 +27,11 @@ taken_long [] = refl
 taken_long (r ∷ rs) = length-append r.taken (all_taken rs) ∙ ap (λ (k : ℕ). length r.taken + k) (taken_long rs)
 
 -- the counts of the records
-naturals_made : (rs : List Replacement) → All NotNegative (counts_made (records rs))
+naturals_made : (rs : List Replacement) → AllByRecursion NotNegative (counts_made (records rs))
 naturals_made [] = tt
 naturals_made (r ∷ rs) = (omega (arith, ints), naturals_made rs)
 
-naturals_taken : (rs : List Replacement) → All NotNegative (counts_taken (records rs))
+naturals_taken : (rs : List Replacement) → AllByRecursion NotNegative (counts_taken (records rs))
 naturals_taken [] = tt
 naturals_taken (r ∷ rs) = (omega (arith, ints), naturals_taken rs)
 

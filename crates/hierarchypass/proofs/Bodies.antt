@@ -1,6 +1,6 @@
 -- A hierarchy line, part by part. Assumes nothing.
 use Rattle.std.proofs.Common.{◌≡◌, ℕ, ◌+◌, ◌≤◌, eqb, List, [], ◌∷◌, ◌++◌, length, drop, Some, sym, refl, ap, ◌∙◌, subst, arith}
-use Rattle.std.specs.List.{AllByRecursion as All}
+use Rattle.std.specs.List.{AllByRecursion}
 use Rattle.faults.specs.declared.Fault.{Fault}
 use Rattle.forms.specs.Form.{Form, nothing, ◌then◌, symbol}
 use Rattle.forms.specs.Array.{sign, listed, row, row_tokens}
@@ -123,8 +123,8 @@ module _ (k : ℕ) {o a : Scanner} (p1 : Passed o a 44) where
               shaped =
                   record {
                     vertices = n.is.1;
-                    base = subst (λ (j : ℕ). All (Long j) m.value) wide m.is.1;
-                    made = subst (λ (j : ℕ). All (Made j) q.value) wide q.is.1;
+                    base = subst (λ (j : ℕ). AllByRecursion (Long j) m.value) wide m.is.1;
+                    made = subst (λ (j : ℕ). AllByRecursion (Made j) q.value) wide q.is.1;
                   }
 
               pub bodied : {h : Scanner} → Passed g h 93 → BodyPassed kind o h (fillings v w r t) (fillings v' w'' r' t') (record { kind = kind; vertices = x; base = z; cells = z + makes; replacements = count; taken = takes })

@@ -1,6 +1,6 @@
 -- Hierarchy lines: their form, the hierarchy that a line says, and its tables. Assumes nothing.
 use Rattle.std.specs.Prelude.{ℕ, ◌+◌, List, [], ◌∷◌, ◌++◌, length, ℤ, pos}
-use Rattle.std.specs.List.{AllByRecursion as All}
+use Rattle.std.specs.List.{AllByRecursion}
 use Rattle.forms.specs.Form.{Form, ◌then◌, ◌or◌, Token, figure, symbol}
 use Rattle.forms.specs.Array.{blanks, sign, whole, listed, row, array, single, row_tokens}
 use Rattle.forms.specs.Line.{Says}
@@ -56,13 +56,13 @@ LineOf bs h = Says hierarchy bs (tokens h)
 
 -- the made cells have k corners each
 abbrev pub Made : ℕ → Replacement → Type 0
-Made k r = All (Long k) r.made
+Made k r = AllByRecursion (Long k) r.made
 
 -- a vertex has three numbers, a cell as many as its kind has corners
 pub record Shaped (h : Hierarchy) : Type 0 where
-  pub vertices : All (Long 3) h.vertices
-  pub base : All (Long (corners_of h.kind)) h.base
-  pub made : All (Made (corners_of h.kind)) h.replacements
+  pub vertices : AllByRecursion (Long 3) h.vertices
+  pub base : AllByRecursion (Long (corners_of h.kind)) h.base
+  pub made : AllByRecursion (Made (corners_of h.kind)) h.replacements
 
 -- Its tables. Of the replacements: the corners of all made cells, the records, and all taken numbers.
 abbrev pub made_corners : List Replacement → List ℤ

@@ -1,6 +1,6 @@
 -- What a pass over a part of a hierarchy line comes to. Assumes nothing.
 use Rattle.std.specs.Prelude.{◌≡◌, ℕ, ◌+◌, List, [], ◌∷◌, length}
-use Rattle.std.specs.List.{AllByRecursion as All}
+use Rattle.std.specs.List.{AllByRecursion}
 use Rattle.forms.specs.Array.{array, listed}
 use Rattle.forms.specs.Form.{nothing, symbol}
 use Rattle.arrays.specs.Sink.{Filling, put_all, put_rows}
@@ -38,7 +38,7 @@ abbrev pub ReplacementKept : ℕ → Scanner → Scanner → Growth → Growth �
 ReplacementKept k = Kept (Made k) replacement_tokens with_replacement (replacement k)
 
 abbrev pub Replacements : ℕ → ℕ → List Replacement → Type 0
-Replacements k count rs = (length rs ≡ count) × All (Made k) rs
+Replacements k count rs = (length rs ≡ count) × AllByRecursion (Made k) rs
 
 abbrev pub ReplacementsKept : ℕ → ℕ → Scanner → Scanner → Growth → Growth → Type 0
 ReplacementsKept k count = Kept (Replacements k count) (array replacement_tokens) with_replacements (listed (replacement k))

@@ -1,6 +1,6 @@
 -- The signed facets of a cell. Assumes nothing.
 use Rattle.std.specs.Prelude.{◌≡◌, Bool, true, false, cond, List, [], ◌∷◌, ℤ, pos, ◌+ℤ◌, neg_ℤ}
-use Rattle.std.specs.List.{AllByRecursion as All}
+use Rattle.std.specs.List.{AllByRecursion}
 use Rattle.kinds.specs.declared.kind.Signed.{Signed}
 
 -- a facet that is counted plus, and one that is counted minus
@@ -21,8 +21,8 @@ total weight (s ∷ ss) = counted s.plus (weight s.facet) +ℤ total weight ss
 
 -- no facet passes the test that it meets the point
 abbrev pub Off : {F : Type 0} → (F → Bool) → List (Signed F) → Type 0
-Off meets = All (λ s. meets s.facet ≡ false)
+Off meets = AllByRecursion (λ s. meets s.facet ≡ false)
 
 -- each facet has a key
 abbrev pub AllReal : {F : Type 0} → (F → Bool) → List (Signed F) → Type 0
-AllReal real = All (λ s. real s.facet ≡ true)
+AllReal real = AllByRecursion (λ s. real s.facet ≡ true)

@@ -1,6 +1,6 @@
 -- Numbers of 32 bits with a sign, and their ranks. Assumes nothing.
 use Rattle.std.specs.Prelude.{◌≡◌, ℕ, Bool, true, ◌&&◌, List, ℤ, pos, negsuc, ◌-ℤ◌, int_le, unsigned_abs}
-use Rattle.std.specs.List.{AllByRecursion as All}
+use Rattle.std.specs.List.{AllByRecursion}
 
 -- the least and the greatest of them
 abbrev pub least : ℤ
@@ -15,7 +15,7 @@ fits z = int_le least z && int_le z greatest
 
 -- each number of the list is one of them
 abbrev pub AllFit : List ℤ → Type 0
-AllFit = All (λ z. fits z ≡ true)
+AllFit = AllByRecursion (λ z. fits z ≡ true)
 
 -- how many of them are lower than one of them
 abbrev pub rank : ℤ → ℕ

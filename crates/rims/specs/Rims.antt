@@ -1,6 +1,6 @@
 -- The rim of cells, and when two lists of cells have the same. Assumes nothing.
 use Rattle.std.specs.Prelude.{◌≡◌, ℕ, ◌+◌, ◌/◌, ◌≤◌, Bool, List, length, ℤ}
-use Rattle.std.specs.List.{flat_map, AllByRecursion as All}
+use Rattle.std.specs.List.{flat_map, AllByRecursion}
 use Rattle.kinds.specs.declared.kind.Signed.{Signed}
 use Rattle.kinds.specs.Shapes.{Shape, tally}
 use Rattle.rules.specs.Raw.{cell}
@@ -18,5 +18,5 @@ SameRim {F} k corners made taken = (f : F) → tally k f (rims k corners made) �
 -- has as many as corners.
 pub record Fitting (arity : ℕ) (corners : List ℤ) (first count : ℕ) (taken : List ℤ) (room : ℕ) : Type 0 where
   pub made : first + count ≤ length corners / arity
-  pub known : All (Numbered (length corners / arity)) taken
+  pub known : AllByRecursion (Numbered (length corners / arity)) taken
   pub few : count + length taken ≤ room / arity

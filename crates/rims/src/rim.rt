@@ -5,7 +5,7 @@ ghost use Rattle.rims.specs.Keys.{Noted};
 ghost use Rattle.rims.specs.Rims.{SameRim, Fitting};
 ghost use Rattle.rules.specs.Raw.{cell as cell_of};
 ghost use Rattle.rules.specs.Values.{Numbered};
-ghost use Rattle.std.specs.List.{range_with_len, flat_map, AllByRecursion as All};
+ghost use Rattle.std.specs.List.{range_with_len, flat_map, AllByRecursion};
 
 use crate::RimMemory;
 use crate::keys::{note, same_numbers};
@@ -57,7 +57,7 @@ fn number_at(list: &[i32], i: usize) -> usize
 
 // Notes the facets of the cells that a list numbers.
 fn note_list<K: Kind>(corners: &[i32], list: &[i32], plus: &mut Vec<u64>, minus: &mut Vec<u64>)
-    requires inside { All (Numbered (length corners.now / K.Kind.arity)) list.now }
+    requires inside { AllByRecursion (Numbered (length corners.now / K.Kind.arity)) list.now }
     requires plus_room { vec_len plus.old + K.Kind.arity * length list.now ≤ vec_capacity plus.old }
     requires minus_room { vec_len minus.old + K.Kind.arity * length list.now ≤ vec_capacity minus.old }
     ensures { Noted K.Kind.key K.Kind.real plus.old minus.old plus.new minus.new (flat_map (λ c. K.Kind.rim (cell_of K.Kind.arity corners.now c)) (map unsigned_abs list.now)) (K.Kind.arity * length list.now) }
@@ -97,7 +97,7 @@ fn compare<K: Kind>(
     taken_keys: &mut Vec<u64>,
 ) -> bool
     requires inside { first + count ≤ length corners.now / K.Kind.arity }
-    requires known { All (Numbered (length corners.now / K.Kind.arity)) taken.now }
+    requires known { AllByRecursion (Numbered (length corners.now / K.Kind.arity)) taken.now }
     requires made_room { K.Kind.arity * (count + length taken.now) ≤ vec_capacity made_keys.old }
     requires taken_room { K.Kind.arity * (count + length taken.now) ≤ vec_capacity taken_keys.old }
     ensures same { MatchBool result (SameRim (shape K.Kind.arity K.Kind.rim K.Kind.sound K.Kind.covers K.Kind.meets K.Kind.alike) corners.now (range_with_len first count) (map unsigned_abs taken.now)) (SameRim (shape K.Kind.arity K.Kind.rim K.Kind.sound K.Kind.covers K.Kind.meets K.Kind.alike) corners.now (range_with_len first count) (map unsigned_abs taken.now) → ⊥) }

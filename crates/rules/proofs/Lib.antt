@@ -4,4 +4,5 @@ pub mod Sums
 pub mod Ranges
 pub mod Cells
 pub mod Links
+pub mod Judgements
 pub mod Rows

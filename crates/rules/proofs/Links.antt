@@ -1,6 +1,6 @@
 -- Which cells replacements take: earlier ones, each of them once, and each by one replacement at most. Assumes nothing.
 use Rattle.std.proofs.Common.{◌≡◌, ℕ, ◌+◌, ◌-◌, ◌<◌, ◌≤◌, true, eqb, length, get_or, drop, ℤ, pos, nat_abs, sym, ◌∙◌, ⊎_elim, arith}
-use Rattle.std.specs.List.{AllByRecursion as All}
+use Rattle.std.specs.List.{AllByRecursion}
 use Rattle.std.proofs.ByRecursion.{All-get_or, All-map, All-weaker}
 use Rattle.std.proofs.lemmas.List.{length-map, length-take, get_or-map, get_or-take, get_or-drop}
 use Rattle.std.proofs.lemmas.Int.{ints}
@@ -69,7 +69,7 @@ module _ (t : Tables) (earlier : Clear 1 (replacements_in t + 1) (EarlierKept t)
       (first_taken t n + x.0, taken_place t n c x.0 real.0 real.1 (earlier n real.0 (omega arith)) x.1 (eqb-true c _ (x.2 0)))
 
   -- a taken cell comes before what its taker makes
-  pub taken_before : (n : ℕ) → 1 ≤ n → n ≤ replacements_in t → All (λ c. c < first_made t n) (taken_cells t n)
+  pub taken_before : (n : ℕ) → 1 ≤ n → n ≤ replacements_in t → AllByRecursion (λ c. c < first_made t n) (taken_cells t n)
   taken_before n low high =
       All-map (λ c. c < first_made t n) nat_abs (taken_by t n)
       (All-weaker (Numbered (first_made t n)) (λ z. nat_abs z < first_made t n) (λ z h. omega (arith, ints)) (taken_by t n) (earlier n low (omega arith)))

@@ -1,7 +1,7 @@
 -- How ranges follow on one another, and that they add up to the whole table. Assumes nothing.
 use Rattle.std.proofs.Common.{◌≡◌, ℕ, zero, suc, ◌+◌, ◌-◌, ◌<◌, ◌≤◌, List, length, get_or, take, ℤ, pos, ◌+ℤ◌, nat_abs, sym, refl, ap, ◌∙◌, subst, ⊎_elim, add-one, arith}
 use native.Mathlib.Nat.{div-eq_of_eq-mul_right}
-use Rattle.std.specs.List.{AllByRecursion as All}
+use Rattle.std.specs.List.{AllByRecursion}
 use Rattle.std.proofs.ByRecursion.{All-get_or}
 use Rattle.std.proofs.lemmas.List.{take_all}
 use Rattle.std.proofs.lemmas.Int.{ints}
@@ -31,7 +31,7 @@ pub ranges_apart : (k : ℕ) (rs : List ℤ) (m n : ℕ) → 1 ≤ m → m < n �
 ranges_apart k rs m n some lt = omega (arith, range_ends k rs m some, before_rises k rs m (n - 1) (omega arith))
 
 -- where no count is below 0, it is the sum of the first counts
-before_total : (k : ℕ) (rs : List ℤ) (n : ℕ) → k < 3 → All NotNegative (column k rs) → n ≤ length (column k rs) → pos (before k rs n) ≡ total (take n (column k rs))
+before_total : (k : ℕ) (rs : List ℤ) (n : ℕ) → k < 3 → AllByRecursion NotNegative (column k rs) → n ≤ length (column k rs) → pos (before k rs n) ≡ total (take n (column k rs))
 before_total k rs zero small natural le = refl
 before_total k rs (suc n) small natural le =
     let xs : List ℤ = column k rs in

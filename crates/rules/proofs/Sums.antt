@@ -1,6 +1,6 @@
 -- Columns of tables, and sums of counts. Assumes nothing.
 use Rattle.std.proofs.Common.{◌≡◌, ℕ, zero, suc, ◌+◌, ◌*◌, ◌/◌, ◌<◌, List, [], ◌∷◌, length, get_or, take, ℤ, pos, ◌+ℤ◌, ◌≤ℤ◌, sym, refl, ap, ◌∙◌, subst, add-one, arith}
-use Rattle.std.specs.List.{AllByRecursion as All}
+use Rattle.std.specs.List.{AllByRecursion}
 use Rattle.std.proofs.lemmas.Int.{ints}
 use Rattle.tables.specs.Tables.{column, total, NotNegative}
 use Rattle.rules.specs.Raw.{at, field}
@@ -32,12 +32,12 @@ total_more xs i lt = subst (λ (k : ℕ). total (take k xs) ≡ total (take i xs
     next (y ∷ ys) zero h = omega (arith, ints)
     next (y ∷ ys) (suc j) h = omega (arith, ints, next ys j (omega arith))
 
-pub total_natural : (xs : List ℤ) → All NotNegative xs → pos 0 ≤ℤ total xs
+pub total_natural : (xs : List ℤ) → AllByRecursion NotNegative xs → pos 0 ≤ℤ total xs
 total_natural [] h = omega (arith, ints)
 total_natural (x ∷ xs) h = omega (arith, ints, h.0, total_natural xs h.1)
 
 -- a part of a sum of counts is no more than the whole
-pub total_part : (xs : List ℤ) (i : ℕ) → All NotNegative xs → total (take i xs) ≤ℤ total xs
+pub total_part : (xs : List ℤ) (i : ℕ) → AllByRecursion NotNegative xs → total (take i xs) ≤ℤ total xs
 total_part [] zero h = omega (arith, ints)
 total_part [] (suc i) h = omega (arith, ints)
 total_part (x ∷ xs) zero h = total_natural (x ∷ xs) h

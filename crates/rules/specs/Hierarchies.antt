@@ -1,6 +1,6 @@
 -- All rules of a hierarchy, for a kind of cell seen as a shape, in the order in which they are judged, each over its whole table; and what it
 -- is to be a MultiTriangulation: all of them hold. Assumes nothing.
-use Rattle.std.specs.Prelude.{◌≡◌, ◌+◌, List, [], ◌∷◌, ◌++◌, Result, MatchResult}
+use Rattle.std.specs.Prelude.{ℕ, Bool, ℤ, ◌≡◌, ◌+◌, List, [], ◌∷◌, ◌++◌, Result, MatchResult}
 use Rattle.faults.specs.declared.Fault.{Fault}
 use Rattle.faults.specs.declared.Refusal.TheVariants.{CountOffLimits, CoordinateOffRange, ErrorOffRange, NoSuchVertex, CellNotSound, NoRefinement, TakesNoEarlierCell, TakesTwice, RimBroken}
 use Rattle.kinds.specs.Shapes.{Shape}
@@ -12,18 +12,21 @@ use Rattle.rules.specs.Ranges.{EarlierKept}
 use Rattle.rules.specs.Rows.{vertices_in, cells_in, replacements_in}
 use Rattle.rules.specs.Values.{CoordinatesKept, ErrorKept, CornersKept, SoundnessKept, GrowthKept}
 
--- those that look at one vertex, one cell or one replacement at a time, with the counts before them: the counts and places, coordinates,
--- errors, corners, soundness, growth, earlier cells only
-abbrev pub plain_rows : {F P : Type 0} → Shape F P → Tables → Places → List Row
-plain_rows k t p =
-    record { refusal = CountOffLimits; from = 0; upto = 4; kept = Counted k.arity t p }
-    ∷ record { refusal = CoordinateOffRange; from = 0; upto = vertices_in t; kept = CoordinatesKept t }
+-- those that look at one vertex, one cell or one replacement at a time, for cells of k corners and their soundness: coordinates, errors,
+-- corners, soundness, growth, earlier cells only
+abbrev pub value_rows : ℕ → (List ℤ → List ℤ → Bool) → Tables → List Row
+value_rows k sound t =
+    record { refusal = CoordinateOffRange; from = 0; upto = vertices_in t; kept = CoordinatesKept t }
     ∷ record { refusal = ErrorOffRange; from = 1; upto = replacements_in t + 1; kept = ErrorKept t }
-    ∷ record { refusal = NoSuchVertex; from = 0; upto = cells_in k.arity t; kept = CornersKept k.arity t }
-    ∷ record { refusal = CellNotSound; from = 0; upto = cells_in k.arity t; kept = SoundnessKept k.sound k.arity t }
+    ∷ record { refusal = NoSuchVertex; from = 0; upto = cells_in k t; kept = CornersKept k t }
+    ∷ record { refusal = CellNotSound; from = 0; upto = cells_in k t; kept = SoundnessKept sound k t }
     ∷ record { refusal = NoRefinement; from = 1; upto = replacements_in t + 1; kept = GrowthKept t }
     ∷ record { refusal = TakesNoEarlierCell; from = 1; upto = replacements_in t + 1; kept = EarlierKept t }
     ∷ []
+
+-- and with those of the counts and places before them
+abbrev pub plain_rows : {F P : Type 0} → Shape F P → Tables → Places → List Row
+plain_rows k t p = record { refusal = CountOffLimits; from = 0; upto = 4; kept = Counted k.arity t p } ∷ value_rows k.arity k.sound t
 
 -- those that look at how replacements follow on one another: no cell taken twice, the rim stays
 abbrev pub linked_rows : {F P : Type 0} → Shape F P → Tables → List Row

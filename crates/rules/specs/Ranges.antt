@@ -1,7 +1,7 @@
 -- Which cells a replacement makes and which numbers it takes, by the counts of the replacements before it. Replacements are counted from
 -- 1. Counts are taken without their sign; none is below 0 where the counts are kept. Assumes nothing.
 use Rattle.std.specs.Prelude.{ℕ, zero, suc, ◌+◌, ◌-◌, List, take, drop, ℤ, unsigned_abs}
-use Rattle.std.specs.List.{AllByRecursion as All}
+use Rattle.std.specs.List.{AllByRecursion}
 use Rattle.tables.specs.Tables.{Tables}
 use Rattle.rules.specs.Raw.{field}
 use Rattle.rules.specs.Values.{Numbered}
@@ -21,4 +21,4 @@ taken_by t n = take (unsigned_abs (field t.replacements (n - 1) 1)) (drop (befor
 
 -- replacement n takes cells only that come before the first cell that it makes
 abbrev pub EarlierKept : Tables → ℕ → Type 0
-EarlierKept t n = All (Numbered (first_made t n)) (taken_by t n)
+EarlierKept t n = AllByRecursion (Numbered (first_made t n)) (taken_by t n)

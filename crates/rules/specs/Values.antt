@@ -1,7 +1,7 @@
 -- The rules on the numbers in the tables, place by place. Vertices and cells are counted from 0, replacements from 1, so record n − 1 is
 -- that of replacement n. Assumes nothing.
 use Rattle.std.specs.Prelude.{◌≡◌, ℕ, ◌-◌, ◌/◌, Bool, true, List, length, ℤ, pos, negsuc, ◌≤ℤ◌, ◌<ℤ◌}
-use Rattle.std.specs.List.{AllByRecursion as All}
+use Rattle.std.specs.List.{AllByRecursion}
 use Rattle.tables.specs.Tables.{Tables}
 use Rattle.rules.specs.Raw.{field, cell}
 
@@ -23,7 +23,7 @@ Numbered count z = (pos 0 ≤ℤ z) × (z <ℤ pos count)
 
 -- every corner of cell c, where cells have k corners, is a vertex
 abbrev pub CornersKept : ℕ → Tables → ℕ → Type 0
-CornersKept k t c = All (Numbered (length t.coordinates / 3)) (cell k t.corners c)
+CornersKept k t c = AllByRecursion (Numbered (length t.coordinates / 3)) (cell k t.corners c)
 
 -- cell c, which has k corners, is sound as its kind defines it
 abbrev pub SoundnessKept : (List ℤ → List ℤ → Bool) → ℕ → Tables → ℕ → Type 0

@@ -46,7 +46,7 @@ fn whole_threes(length: usize) -> Option<usize>
 }
 
 // Whether there are 1 to 4,096 whole vertices.
-fn vertices_counted(tables: &RawTables<'_>) -> bool
+pub(crate) fn vertices_counted(tables: &RawTables<'_>) -> bool
     ensures { MatchBool result (VerticesCounted (lists_of tables.now) (own_places (lists_of tables.now))) (VerticesCounted (lists_of tables.now) (own_places (lists_of tables.now)) → ⊥) }
 {
     match whole_threes(tables.coordinates.len()) {
@@ -66,7 +66,7 @@ fn make_up(width: usize, cells: usize, corners: usize) -> bool
 }
 
 // Whether there are at most 16,384 whole cells, at least one of them a base cell, which the base and the replacements make.
-fn cells_counted(width: usize, tables: &RawTables<'_>) -> bool
+pub(crate) fn cells_counted(width: usize, tables: &RawTables<'_>) -> bool
     ensures { MatchBool result (CellsCounted width (lists_of tables.now) (own_places (lists_of tables.now))) (CellsCounted width (lists_of tables.now) (own_places (lists_of tables.now)) → ⊥) }
 {
     if tables.base < 1 {
@@ -79,7 +79,7 @@ fn cells_counted(width: usize, tables: &RawTables<'_>) -> bool
 }
 
 // Whether there are at most 4,096 whole records of replacements.
-fn replacements_counted(tables: &RawTables<'_>) -> bool
+pub(crate) fn replacements_counted(tables: &RawTables<'_>) -> bool
     ensures { MatchBool result (ReplacementsCounted (lists_of tables.now) (own_places (lists_of tables.now))) (ReplacementsCounted (lists_of tables.now) (own_places (lists_of tables.now)) → ⊥) }
 {
     match whole_threes(tables.replacements.len()) {
@@ -89,7 +89,7 @@ fn replacements_counted(tables: &RawTables<'_>) -> bool
 }
 
 // Whether there are at most 16,384 taken numbers, which the replacements take.
-fn taken_counted(tables: &RawTables<'_>) -> bool
+pub(crate) fn taken_counted(tables: &RawTables<'_>) -> bool
     ensures { MatchBool result (TakenCounted (lists_of tables.now) (own_places (lists_of tables.now))) (TakenCounted (lists_of tables.now) (own_places (lists_of tables.now)) → ⊥) }
 {
     match add_up(tables.replacements, 1, 0) {

@@ -10,7 +10,7 @@ use crate::values::{all_numbered, field};
 use faults::{Fault, Refusal};
 
 // So many numbers of a list, from a place on; fewer past its end.
-fn stretch(list: &[i32], from: u128, count: u32) -> &[i32]
+pub fn stretch(list: &[i32], from: u128, count: u32) -> &[i32]
     ensures { result.now ≡ take count (drop from list.now) }
 {
     let start = from.min(list.len() as u128) as usize;
@@ -19,7 +19,7 @@ fn stretch(list: &[i32], from: u128, count: u32) -> &[i32]
 }
 
 // A count in column `column` of a record.
-fn count_at(replacements: &[i32], record_at: usize, column: usize) -> u32
+pub fn count_at(replacements: &[i32], record_at: usize, column: usize) -> u32
     ensures value { result ≡ unsigned_abs (field_of replacements.now record_at column) }
     ensures bound { result ≤ 2 ^ 31 }
 {

@@ -2,7 +2,7 @@
 ghost use Rattle.std.specs.Prelude.{◌≡◌, ℕ, ◌+◌, ◌-◌, ◌*◌, ◌/◌, length, ℤ, pos, MatchBool};
 ghost use Rattle.rules.specs.Raw.{at, field as field_of, cell, lists_of};
 ghost use Rattle.rules.specs.Values.{Coordinate, CoordinatesKept, ErrorKept, Numbered, CornersKept, GrowthKept};
-ghost use Rattle.std.specs.List.{AllByRecursion as All};
+ghost use Rattle.std.specs.List.{AllByRecursion};
 
 use crate::RawTables;
 use crate::rule::Rule;
@@ -37,8 +37,8 @@ fn is_numbered(count: u128, z: i32) -> bool
 }
 
 // Whether every corner is a vertex.
-pub(crate) fn all_numbered(count: u128, corners: &[i32]) -> bool
-    ensures { MatchBool result (All (Numbered count) corners.now) (All (Numbered count) corners.now → ⊥) }
+pub fn all_numbered(count: u128, corners: &[i32]) -> bool
+    ensures { MatchBool result (AllByRecursion (Numbered count) corners.now) (AllByRecursion (Numbered count) corners.now → ⊥) }
 {
     for corner in corners {
         if !is_numbered(count, *corner) {
@@ -49,7 +49,7 @@ pub(crate) fn all_numbered(count: u128, corners: &[i32]) -> bool
 }
 
 // The corners of cell c, where cells have k corners; fewer past the end of the table.
-pub(crate) fn cell_at(corners: &[i32], k: usize, c: usize) -> &[i32]
+pub fn cell_at(corners: &[i32], k: usize, c: usize) -> &[i32]
     ensures { result.now ≡ cell k corners.now c }
 {
     let from = k.saturating_mul(c).min(corners.len());

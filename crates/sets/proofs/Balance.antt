@@ -2,7 +2,7 @@
 -- Assumes nothing.
 use Rattle.std.proofs.Common.{◌≡◌, ℕ, ◌+◌, ◌<◌, ◌≤◌, Bool, true, false, not, ◌&&◌, ◌||◌, eqb, List, ℤ, pos, ◌+ℤ◌, nat_abs, sym, refl, ap, ◌∙◌, ⊎_elim, arith}
 use lib.IntN.{+ℤ_comm}
-use Rattle.std.specs.List.{range_with_len, AllByRecursion as All}
+use Rattle.std.specs.List.{range_with_len, AllByRecursion}
 use Rattle.std.proofs.ByRecursion.{All-weaker}
 use Rattle.std.proofs.lemmas.Int.{ints}
 use Rattle.std.proofs.lemmas.Bool.{cases_lt, and_parts, eqb-true, or_left, or_right, false≢true}
@@ -35,7 +35,7 @@ sum_members t H each = sum_of (λ n. when (H n) (each n)) (range_with_len 1 (rep
 
 -- Lists of cells below bound, one for each replacement; no number stands twice in a list, and none in two lists.
 record Owned (t : Tables) (bound : ℕ) (list : ℕ → List ℕ) : Type 0 where
-  below : (n : ℕ) → 1 ≤ n → n ≤ replacements_in t → All (λ c. c < bound) (list n)
+  below : (n : ℕ) → 1 ≤ n → n ≤ replacements_in t → AllByRecursion (λ c. c < bound) (list n)
   once : (n c : ℕ) → 1 ≤ n → n ≤ replacements_in t → Lone (eqb c) (list n) 0
   one : (c m n : ℕ) → (replacement t m && some (eqb c) (list m)) ≡ true → (replacement t n && some (eqb c) (list n)) ≡ true → m ≡ n
 

@@ -1,7 +1,7 @@
 -- The worked hierarchy keeps the rules, and its sets and meshes are what is said of them. Assumes nothing.
 use Rattle.std.proofs.Common.{◌≡◌, ℕ, zero, suc, ◌+◌, ◌-◌, ◌*◌, ◌<◌, ◌≤◌, Bool, true, false, cond, not, ◌||◌, eqb, List, [], ◌∷◌, drop, ℤ, pos, negsuc, ◌+ℤ◌, neg_ℤ, nat_abs, refl, ap, ◌∙◌, subst, arith}
 use lib.Signed.{le_z, lt_z}
-use Rattle.std.specs.List.{range_with_len, AllByRecursion as All}
+use Rattle.std.specs.List.{range_with_len, AllByRecursion}
 use Rattle.std.proofs.lemmas.List.FromFn.{length-range_with_len, get_or-range_with_len}
 use Rattle.std.proofs.ByRecursion.{All-get_or, All-weaker, All-take, All-drop}
 use Rattle.std.proofs.lemmas.Int.{ints}
@@ -44,7 +44,7 @@ all_closed n m e x =
     (counting_tells m 1 4).1 (made.least, omega (arith, made.most))
 
 -- ---- a point off facets
-off_by : {X : Type 0} (p : X → Bool) (xs : List X) → some p xs ≡ false → All (λ x. p x ≡ false) xs
+off_by : {X : Type 0} (p : X → Bool) (xs : List X) → some p xs ≡ false → AllByRecursion (λ x. p x ≡ false) xs
 off_by p [] e = tt
 off_by p (x ∷ xs) e = let both = or_parts (p x) (some p xs) e in (both.0, off_by p xs both.1)
 
@@ -55,7 +55,7 @@ pub off_finest : OffFacets triangles square point (mesh_cells 3 square all)
 off_finest = off_by (λ s. triangles.meets square.coordinates s.facet point) (facets_of triangles square (mesh_cells 3 square all)) refl
 
 -- ---- the rules
-clear_listed : (K : ℕ → Type 0) (a n : ℕ) → All K (range_with_len a n) → Clear a (a + n) K
+clear_listed : (K : ℕ → Type 0) (a n : ℕ) → AllByRecursion K (range_with_len a n) → Clear a (a + n) K
 clear_listed K a n h q ge lt =
     let inside : q - a < n = omega arith in
     let e : a + (q - a) ≡ q = omega arith in
@@ -72,7 +72,7 @@ coordinates : Clear 0 8 (CoordinatesKept square)
 coordinates v ge lt =
     let vs : List ℤ = square.coordinates in
     let out : ℤ → Bool = λ z. lt_z z (negsuc 499999) || lt_z (pos 500000) z in
-    let inside : All Coordinate vs = All-weaker (λ z. out z ≡ false) Coordinate (λ z e. let both = or_parts (lt_z z (negsuc 499999)) (lt_z (pos 500000) z) e in (omega (arith, ints, both.0), omega (arith, ints, both.1))) vs (off_by out vs refl) in
+    let inside : AllByRecursion Coordinate vs = All-weaker (λ z. out z ≡ false) Coordinate (λ z e. let both = or_parts (lt_z z (negsuc 499999)) (lt_z (pos 500000) z) e in (omega (arith, ints, both.0), omega (arith, ints, both.1))) vs (off_by out vs refl) in
     (All-get_or Coordinate vs (3 * v + 0) (pos 0) (omega arith) inside, All-get_or Coordinate vs (3 * v + 1) (pos 0) (omega arith) inside, All-get_or Coordinate vs (3 * v + 2) (pos 0) (omega arith) inside)
 
 errors : Clear 1 5 (ErrorKept square)
@@ -81,7 +81,7 @@ errors = clear_listed (ErrorKept square) 1 4 (omega (arith, ints))
 corners : Clear 0 16 (CornersKept 3 square)
 corners c ge lt =
     let out : ℤ → Bool = λ z. lt_z z (pos 0) || le_z (pos 8) z in
-    let inside : All (Numbered 8) square.corners = All-weaker (λ z. out z ≡ false) (Numbered 8) (λ z e. let both = or_parts (lt_z z (pos 0)) (le_z (pos 8) z) e in (omega (arith, ints, both.0), omega (arith, ints, both.1))) square.corners (off_by out square.corners refl) in
+    let inside : AllByRecursion (Numbered 8) square.corners = All-weaker (λ z. out z ≡ false) (Numbered 8) (λ z e. let both = or_parts (lt_z z (pos 0)) (le_z (pos 8) z) e in (omega (arith, ints, both.0), omega (arith, ints, both.1))) square.corners (off_by out square.corners refl) in
     All-take (Numbered 8) 3 (drop (3 * c) square.corners) (All-drop (Numbered 8) (3 * c) square.corners inside)
 
 sound : Clear 0 16 (SoundnessKept triangles.sound 3 square)

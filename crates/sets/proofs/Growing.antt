@@ -1,6 +1,6 @@
 -- A closed set that holds another has no fewer cells in its mesh. Assumes nothing.
 use Rattle.std.proofs.Common.{◌≡◌, ℕ, ◌+◌, ◌-◌, ◌<◌, ◌≤◌, Bool, true, false, List, [], ◌∷◌, length, drop, ℤ, pos, ◌+ℤ◌, nat_abs, ◌≤ℤ◌, refl, ap, ◌∙◌, arith}
-use Rattle.std.specs.List.{range_with_len, AllByRecursion as All}
+use Rattle.std.specs.List.{range_with_len, AllByRecursion}
 use Rattle.std.proofs.lemmas.List.FromFn.{length-range_with_len}
 use Rattle.std.proofs.lemmas.List.{length-map, length-take}
 use Rattle.std.proofs.lemmas.Int.{ints}
@@ -51,7 +51,7 @@ one_more false true made taken a b c d within le rest = omega (arith, ints)
 one_more false false made taken a b c d within le rest = omega (arith, ints)
 
 -- the larger set gains what it makes and loses what it takes
-gains : (G H : ℕ → Bool) (made taken : ℕ → ℤ) (ns : List ℕ) → ((n : ℕ) → G n ≡ true → H n ≡ true) → All (λ n. taken n ≤ℤ made n) ns
+gains : (G H : ℕ → Bool) (made taken : ℕ → ℤ) (ns : List ℕ) → ((n : ℕ) → G n ≡ true → H n ≡ true) → AllByRecursion (λ n. taken n ≤ℤ made n) ns
     → (sum_of (λ n. when (G n) (made n)) ns +ℤ sum_of (λ n. when (H n) (taken n)) ns) ≤ℤ (sum_of (λ n. when (H n) (made n)) ns +ℤ sum_of (λ n. when (G n) (taken n)) ns)
 gains G H made taken [] within le = omega (arith, ints)
 gains G H made taken (n ∷ ns) within le =

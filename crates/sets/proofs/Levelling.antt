@@ -1,6 +1,6 @@
 -- The mesh of every closed set is level with the coarse mesh. Assumes nothing.
 use Rattle.std.proofs.Common.{◌≡◌, ℕ, ◌+◌, ◌<◌, Bool, true, false, cond, List, [], ◌∷◌, length, ℤ, pos, ◌+ℤ◌, nat_abs, filter, sym, refl, ap, ◌∙◌, arith}
-use Rattle.std.specs.List.{range_with_len, AllByRecursion as All}
+use Rattle.std.specs.List.{range_with_len, AllByRecursion}
 use Rattle.std.proofs.ByRecursion.{all_kept_by}
 use Rattle.std.proofs.lemmas.Int.{ints}
 use Rattle.kinds.specs.Facets.{Off, total}
@@ -44,7 +44,7 @@ module _ {F P : Type 0} (k : Shape F P) (t : Tables) where
 
   module _ (weight : List ℤ → P → F → ℤ) (laws : Laws k weight) where
     -- how often a point is covered, by the weights of facets
-    covered_total : (p : P) (cs : List ℕ) → All Sound cs → OffFacets k t p cs → pos (times_covered k t p cs) ≡ total (weight t.coordinates p) (facets_of k t cs)
+    covered_total : (p : P) (cs : List ℕ) → AllByRecursion Sound cs → OffFacets k t p cs → pos (times_covered k t p cs) ≡ total (weight t.coordinates p) (facets_of k t cs)
     covered_total p [] sound off = refl
     covered_total p (c ∷ cs) sound off =
         let parts = all_parts (λ s. k.meets t.coordinates s.facet p ≡ false) (k.rim (corners_of c)) (facets_of k t cs) off in
@@ -67,8 +67,8 @@ module _ {F P : Type 0} (k : Shape F P) (t : Tables) where
         = λ f. tallied f mesh
         ∙ mesh_keeps k.arity t order H (at_facet f) closed (λ n low high. sym (tallied f (made_cells t n)) ∙ linked.rim n low (omega arith) f ∙ tallied f (taken_cells t n))
         ∙ sym (tallied f base) in
-        let all_sound : All Sound (range_with_len 0 (cells_in k.arity t)) = all_counting Sound 0 (cells_in k.arity t) (λ c ge lt. plain.sound c ge (omega arith)) in
-        let base_sound : All Sound base = all_counting Sound 0 (nat_abs t.base) (λ c ge lt. plain.sound c ge (omega (arith, order.adds_up))) in
+        let all_sound : AllByRecursion Sound (range_with_len 0 (cells_in k.arity t)) = all_counting Sound 0 (cells_in k.arity t) (λ c ge lt. plain.sound c ge (omega arith)) in
+        let base_sound : AllByRecursion Sound base = all_counting Sound 0 (nat_abs t.base) (λ c ge lt. plain.sound c ge (omega (arith, order.adds_up))) in
         record {
           facets = facets;
           covered = λ p off off0. ap nat_abs

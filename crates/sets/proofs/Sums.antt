@@ -1,7 +1,7 @@
 -- Sums over lists, and over those of a list that pass a test. Assumes nothing.
 use Rattle.std.proofs.Common.{◌≡◌, ℕ, zero, suc, ◌+◌, ◌<◌, ◌≤◌, Bool, true, false, cond, ◌||◌, eqb, List, [], ◌∷◌, length, get_or, ℤ, pos, ◌+ℤ◌, filter, sym, refl, ap, ◌∙◌, subst, ⊎_elim, arith}
 use lib.IntN.{+ℤ_idl, +ℤ_idr}
-use Rattle.std.specs.List.{range_with_len, AllByRecursion as All}
+use Rattle.std.specs.List.{range_with_len, AllByRecursion}
 use Rattle.std.proofs.lemmas.List.FromFn.{length-range_with_len, get_or-range_with_len}
 use Rattle.std.proofs.ByRecursion.{All-from_get_or}
 use Rattle.std.proofs.lemmas.Int.{ints}
@@ -12,19 +12,19 @@ abbrev pub sum_of : {X : Type 0} → (X → ℤ) → List X → ℤ
 sum_of v [] = pos 0
 sum_of v (x ∷ xs) = v x +ℤ sum_of v xs
 
-pub sum_like : {X : Type 0} (u v : X → ℤ) (xs : List X) → All (λ x. u x ≡ v x) xs → sum_of u xs ≡ sum_of v xs
+pub sum_like : {X : Type 0} (u v : X → ℤ) (xs : List X) → AllByRecursion (λ x. u x ≡ v x) xs → sum_of u xs ≡ sum_of v xs
 sum_like u v [] h = refl
 sum_like u v (x ∷ xs) h = ap (λ z. z +ℤ sum_of u xs) h.0 ∙ ap (λ z. v x +ℤ z) (sum_like u v xs h.1)
 
-pub sum_zero : {X : Type 0} (v : X → ℤ) (xs : List X) → All (λ x. v x ≡ pos 0) xs → sum_of v xs ≡ pos 0
+pub sum_zero : {X : Type 0} (v : X → ℤ) (xs : List X) → AllByRecursion (λ x. v x ≡ pos 0) xs → sum_of v xs ≡ pos 0
 sum_zero v [] h = refl
 sum_zero v (x ∷ xs) h = ap (λ z. z +ℤ sum_of v xs) h.0 ∙ +ℤ_idl (sum_of v xs) ∙ sum_zero v xs h.1
 
-pub all_of : {X : Type 0} (P : X → Type 0) → ((x : X) → P x) → (xs : List X) → All P xs
+pub all_of : {X : Type 0} (P : X → Type 0) → ((x : X) → P x) → (xs : List X) → AllByRecursion P xs
 all_of P h [] = tt
 all_of P h (x ∷ xs) = (h x, all_of P h xs)
 
-pub all_counting : (P : ℕ → Type 0) (a n : ℕ) → ((c : ℕ) → a ≤ c → c < a + n → P c) → All P (range_with_len a n)
+pub all_counting : (P : ℕ → Type 0) (a n : ℕ) → ((c : ℕ) → a ≤ c → c < a + n → P c) → AllByRecursion P (range_with_len a n)
 all_counting P a n h =
     All-from_get_or P (range_with_len a n) 0
     (λ i lt.
@@ -65,7 +65,7 @@ sum_lone p z d [] lone = refl
 sum_lone p z d (x ∷ xs) lone =
     ⊎_elim
     (λ yes.
-    let none : All (λ y. when (p y) z ≡ pos 0) xs = All-from_get_or (λ y. when (p y) z ≡ pos 0) xs d (λ i lt. ⊎_elim (λ e. absurd (lone 0 (suc i) (omega arith) (omega arith) yes e)) (λ e. cond-false (p (get_or xs i d)) z (pos 0) e) (cases_Bool (p (get_or xs i d)))) in
+    let none : AllByRecursion (λ y. when (p y) z ≡ pos 0) xs = All-from_get_or (λ y. when (p y) z ≡ pos 0) xs d (λ i lt. ⊎_elim (λ e. absurd (lone 0 (suc i) (omega arith) (omega arith) yes e)) (λ e. cond-false (p (get_or xs i d)) z (pos 0) e) (cases_Bool (p (get_or xs i d)))) in
     ap (λ b. when (b || some p xs) z) yes ∙ sym (ap (λ b. when b z +ℤ sum_of (λ y. when (p y) z) xs) yes ∙ ap (λ s. z +ℤ s) (sum_zero (λ y. when (p y) z) xs none) ∙ +ℤ_idr z))
     (λ no.
     ap (λ b. when (b || some p xs) z) no ∙ sum_lone p z d xs (λ i j lt inside a b. lone (suc i) (suc j) (omega arith) (omega arith) a b)
@@ -98,13 +98,13 @@ spike v x a (suc n) ge lt =
     (cases_eq a x)
 
 -- a sum over a list in which no number stands twice is the sum over the numbers below n that stand in it
-pub sum_listed : (v : ℕ → ℤ) (xs : List ℕ) (n : ℕ) → ((c : ℕ) → Lone (eqb c) xs 0) → All (λ x. x < n) xs → sum_of v xs ≡ sum_of (λ c. when (some (eqb c) xs) (v c)) (range_with_len 0 n)
+pub sum_listed : (v : ℕ → ℤ) (xs : List ℕ) (n : ℕ) → ((c : ℕ) → Lone (eqb c) xs 0) → AllByRecursion (λ x. x < n) xs → sum_of v xs ≡ sum_of (λ c. when (some (eqb c) xs) (v c)) (range_with_len 0 n)
 sum_listed v xs n lone below =
     sym
     (sum_like (λ c. when (some (eqb c) xs) (v c)) (λ c. sum_of (λ x. when (eqb c x) (v c)) xs) (range_with_len 0 n) (all_of _ (λ c. sum_lone (eqb c) (v c) 0 xs (lone c)) (range_with_len 0 n))
     ∙ sum_swap (λ c x. when (eqb c x) (v c)) (range_with_len 0 n) xs
     ∙ sum_like (λ x. sum_of (λ c. when (eqb c x) (v c)) (range_with_len 0 n)) v xs (spikes xs below))
   where
-    spikes : (ys : List ℕ) → All (λ x. x < n) ys → All (λ x. sum_of (λ c. when (eqb c x) (v c)) (range_with_len 0 n) ≡ v x) ys
+    spikes : (ys : List ℕ) → AllByRecursion (λ x. x < n) ys → AllByRecursion (λ x. sum_of (λ c. when (eqb c x) (v c)) (range_with_len 0 n) ≡ v x) ys
     spikes [] h = tt
     spikes (y ∷ ys) h = (spike v y 0 n (omega arith) (omega (arith, h.0)), spikes ys h.1)

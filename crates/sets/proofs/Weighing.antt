@@ -2,14 +2,14 @@
 use Rattle.std.proofs.Common.{◌≡◌, ◌*◌, Bool, true, false, cond, List, [], ◌∷◌, ◌++◌, ℤ, pos, ◌+ℤ◌, ◌*ℤ◌, neg_ℤ, sym, refl, ap, ◌∙◌, arith}
 use lib.IntN.{+ℤ_idl, +ℤ_assoc}
 use borrow.Author.Differences.{up, down, sum_is_lem}
-use Rattle.std.specs.List.{flat_map, AllByRecursion as All}
+use Rattle.std.specs.List.{flat_map, AllByRecursion}
 use Rattle.std.proofs.lemmas.Int.{ints}
 use Rattle.kinds.specs.declared.kind.Signed.{Signed}
 use Rattle.kinds.specs.Facets.{counted, total}
 use Rattle.kinds.specs.Shapes.{Shape, tally}
 use Rattle.sets.proofs.Sums.{sum_of}
 
-pub all_parts : {X : Type 0} (P : X → Type 0) (xs ys : List X) → All P (xs ++ ys) → All P xs × All P ys
+pub all_parts : {X : Type 0} (P : X → Type 0) (xs ys : List X) → AllByRecursion P (xs ++ ys) → AllByRecursion P xs × AllByRecursion P ys
 all_parts P [] ys h = (tt, h)
 all_parts P (x ∷ xs) ys h = let rest = all_parts P xs ys h.1 in ((h.0, rest.0), rest.1)
 
@@ -55,7 +55,7 @@ module _ {F P : Type 0} (k : Shape F P) where
       one true = refl
       one false = e
 
-  zero_total : (w : F → ℤ) (ss : List (Signed F)) → All (λ s. w s.facet ≡ pos 0) ss → total w ss ≡ pos 0
+  zero_total : (w : F → ℤ) (ss : List (Signed F)) → AllByRecursion (λ s. w s.facet ≡ pos 0) ss → total w ss ≡ pos 0
   zero_total w [] h = refl
   zero_total w (s ∷ ss) h = ap (λ z. counted s.plus z +ℤ total w ss) h.0 ∙ ap (λ z. counted s.plus (pos 0) +ℤ z) (zero_total w ss h.1) ∙ none s.plus
     where
@@ -64,7 +64,7 @@ module _ {F P : Type 0} (k : Shape F P) where
       none false = refl
 
   module _ (likes : (f : F) → k.alike f f ≡ true) (likens : (f g : F) → k.alike f g ≡ true → f ≡ g) where
-    all_zero : (ss : List (Signed F)) (w : F → ℤ) → All (λ s. without_all ss w s.facet ≡ pos 0) ss
+    all_zero : (ss : List (Signed F)) (w : F → ℤ) → AllByRecursion (λ s. without_all ss w s.facet ≡ pos 0) ss
     all_zero [] w = tt
     all_zero (s ∷ ss) w = (stays_zero ss (without s.facet w) s.facet (ap (λ b. cond b (pos 0) (w s.facet)) (likes s.facet)), all_zero ss (without s.facet w))
 

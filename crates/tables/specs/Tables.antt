@@ -1,7 +1,7 @@
 -- The raw tables of a hierarchy, and how many entries they may have: 1 to 4,096 vertices, 1 to 16,384 cells with at least one base
 -- cell, at most 4,096 replacements and at most 16,384 taken numbers, which make up the tables exactly. Assumes nothing.
 use Rattle.std.specs.Prelude.{◌≡◌, ℕ, zero, suc, ◌*◌, ◌≤◌, List, [], ◌∷◌, length, ℤ, pos, ◌+ℤ◌, ◌≤ℤ◌}
-use Rattle.std.specs.List.{AllByRecursion as All}
+use Rattle.std.specs.List.{AllByRecursion}
 use Rattle.tables.specs.declared.contents.Places.{Places}
 
 -- Three coordinates for each vertex; the corners of each cell, first of the base cells, then of the cells that each replacement
@@ -58,7 +58,7 @@ pub record CellsCounted (k : ℕ) (t : Tables) (p : Places) : Type 0 where
   pub whole : length t.corners ≡ k * cells
   pub most : cells ≤ 16384
   pub some_base : pos 1 ≤ℤ t.base
-  pub natural : All NotNegative (counts_made t.replacements)
+  pub natural : AllByRecursion NotNegative (counts_made t.replacements)
   pub adds_up : t.base +ℤ total (counts_made t.replacements) ≡ pos cells
   pub room : length t.corners ≤ p.corners
 
@@ -72,7 +72,7 @@ pub record ReplacementsCounted (t : Tables) (p : Places) : Type 0 where
 -- there are at most 16,384 taken numbers, and places for them: those that the replacements take
 pub record TakenCounted (t : Tables) (p : Places) : Type 0 where
   pub most : length t.taken ≤ 16384
-  pub natural : All NotNegative (counts_taken t.replacements)
+  pub natural : AllByRecursion NotNegative (counts_taken t.replacements)
   pub adds_up : total (counts_taken t.replacements) ≡ pos (length t.taken)
   pub room : length t.taken ≤ p.taken
 

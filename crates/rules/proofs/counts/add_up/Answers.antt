@@ -1,5 +1,5 @@
 use Rattle.std.proofs.Common.{◌≡◌, ◌+◌, ◌<◌, List, length, get_or, take, ℤ, pos, ◌+ℤ◌, subst, arith}
-use Rattle.std.specs.List.{AllByRecursion as All}
+use Rattle.std.specs.List.{AllByRecursion}
 use Rattle.std.proofs.ByRecursion.{All-get_or, All-more}
 use Rattle.std.proofs.lemmas.List.{take_all}
 use Rattle.std.proofs.lemmas.Int.{ints}
@@ -38,7 +38,7 @@ returns c =
     let col : List ℤ = column c.args.column c.args.replacements.now in
     let all : take c.loop-i.i col ≡ col = take_all c.loop-i.i col (omega (arith, column_long c.args.column c.args.replacements.now, c.loop-i-test.false)) in
     record {
-      natural = subst (λ (xs : List ℤ). All NotNegative xs) all c.loop-i.invariant.0;
+      natural = subst (λ (xs : List ℤ). AllByRecursion NotNegative xs) all c.loop-i.invariant.0;
       sum = subst (λ (xs : List ℤ). pos c.args.start +ℤ total xs ≡ pos c.loop-i.sum) all c.loop-i.invariant.1;
       most = c.loop-i.invariant.2;
     }

@@ -2,7 +2,7 @@ use Rattle.std.proofs.Common.{List, get_or, ℤ, pos, subst, w32, SFits, rules}
 use Rattle.std.proofs.ByRecursion.{All-get_or, All-more}
 use Rattle.std.proofs.lemmas.List.{take_all}
 use Rattle.std.proofs.lemmas.Int.{to_z-of_z}
-use Rattle.std.specs.List.{AllByRecursion as All}
+use Rattle.std.specs.List.{AllByRecursion}
 use Rattle.rules.specs.Values.{Numbered}
 use Rattle.rules.proofs.values.all_numbered.Goals as goal
 
@@ -21,4 +21,4 @@ returns-then-not-is_numbered c all =
     (All-get_or (Numbered c.args.count) c.args.corners.now c.loop-corner.corner-index (pos 0) c.loop-corner-test.true all)
 
 pub returns : goal.returns
-returns c = subst (λ (xs : List ℤ). All (Numbered c.args.count) xs) (take_all c.loop-corner.corner-index c.args.corners.now c.loop-corner-test.false) c.loop-corner.invariant
+returns c = subst (λ (xs : List ℤ). AllByRecursion (Numbered c.args.count) xs) (take_all c.loop-corner.corner-index c.args.corners.now c.loop-corner-test.false) c.loop-corner.invariant
