@@ -15,6 +15,7 @@ use Rattle.rules.specs.Rows.{replacements_in}
 use Rattle.rules.specs.Hierarchies.{hierarchy_rows}
 use Rattle.tables.specs.Tables.{Tables}
 use Rattle.tables.proofs.Rows.{lawful_or_refused, refused_once}
+use Rattle.kinds.specs.declared.kind.Kind.{Ghosts}
 use Rattle.hierarchy.specs.declared.hierarchy.Hierarchy.{Hierarchy}
 use Rattle.hierarchy.specs.Accepted.{Alike, Carries, CheckedOnce, SameSides, places_for}
 use Rattle.hierarchy.specs.Derived.{BoxOf, Boxes}
@@ -69,7 +70,7 @@ same_boxes k t bs ds x y = each_place bs ds (x.long ∙ sym y.long) (λ i b d l 
     let q : BoxOf k t (i + 1) d = subst (λ (o : Option Extent). MatchOption o ⊥ (BoxOf k t (i + 1))) (ap (slice_get ds) n ∙ f) (y.each (i + 1) real) in
     same_sides b d (p.least d q.around) (q.least b p.around))
 
-carried_once : {K F P : Type 0} (k : ℕ) (t : Tables) (g h : Hierarchy K F P) → Carries k t g → Carries k t h → Alike g h
+carried_once : {K F P : Type 0} {m : Ghosts K F P} (k : ℕ) (t : Tables) (g h : Hierarchy K F P m) → Carries k t g → Carries k t h → Alike g h
 carried_once k t g h x y = record {
   tables = x.tables ∙ sym y.tables;
   width = x.width ∙ sym y.width;
@@ -81,8 +82,8 @@ carried_once k t g h x y = record {
   takers = same_takers t (vec_items g.takers) (vec_items h.takers) (x.takers_long ∙ sym y.takers_long) x.takers y.takers;
 }
 
-pub checked_once : (K : Type 0) {F P : Type 0} (k : Shape F P) → CheckedOnce K k
-checked_once K k t corners (Ok g) (Ok h) x y = carried_once k.arity t g h x.2 y.2
-checked_once K k t corners (Ok g) (Err f) x y = lawful_or_refused (hierarchy_rows k t (places_for t corners)) f (placed_lawful k t corners x.0 x.1) y
-checked_once K k t corners (Err f) (Ok h) x y = lawful_or_refused (hierarchy_rows k t (places_for t corners)) f (placed_lawful k t corners y.0 y.1) x
-checked_once K k t corners (Err e) (Err f) x y = refused_once (hierarchy_rows k t (places_for t corners)) e f x y
+pub checked_once : {K F P : Type 0} (m : Ghosts K F P) (k : Shape F P) → CheckedOnce m k
+checked_once m k t corners (Ok g) (Ok h) x y = carried_once k.arity t g h x.2 y.2
+checked_once m k t corners (Ok g) (Err f) x y = lawful_or_refused (hierarchy_rows k t (places_for t corners)) f (placed_lawful k t corners x.0 x.1) y
+checked_once m k t corners (Err f) (Ok h) x y = lawful_or_refused (hierarchy_rows k t (places_for t corners)) f (placed_lawful k t corners y.0 y.1) x
+checked_once m k t corners (Err e) (Err f) x y = refused_once (hierarchy_rows k t (places_for t corners)) e f x y

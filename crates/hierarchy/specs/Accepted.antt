@@ -11,6 +11,7 @@ use Rattle.tables.specs.Tables.{Tables}
 use Rattle.rules.specs.Rows.{cells_in, replacements_in}
 use Rattle.rules.specs.Raw.{lists_of}
 use Rattle.rules.specs.Hierarchies.{hierarchy_rows, MultiTriangulation}
+use Rattle.kinds.specs.declared.kind.Kind.{Ghosts}
 use Rattle.hierarchy.specs.declared.hierarchy.Hierarchy.{Hierarchy}
 use Rattle.hierarchy.specs.Derived.{Boxes}
 
@@ -20,7 +21,7 @@ places_for t corners = record { coordinates = length t.coordinates; corners = co
 
 -- The hierarchy has these tables of cells with k corners, and what is worked out from them is right: the counts, the ranges and the box of
 -- each replacement, the maker and the taker of each cell.
-pub record Carries {K F P : Type 0} (k : ℕ) (t : Tables) (h : Hierarchy K F P) : Type 0 where
+pub record Carries {K F P : Type 0} {m : Ghosts K F P} (k : ℕ) (t : Tables) (h : Hierarchy K F P m) : Type 0 where
   pub tables : lists_of h.tables ≡ t
   pub width : h.width ≡ k
   pub cells : h.cells ≡ cells_in k t
@@ -34,7 +35,7 @@ pub record Carries {K F P : Type 0} (k : ℕ) (t : Tables) (h : Hierarchy K F P)
 
 -- Tables are accepted where they are a MultiTriangulation of the kind and there are places for their corners; else the first broken rule is
 -- told, at its lowest place.
-abbrev pub Accepting : {K F P : Type 0} → Shape F P → Tables → ℕ → Result (Hierarchy K F P) Fault → Type 0
+abbrev pub Accepting : {K F P : Type 0} {m : Ghosts K F P} → Shape F P → Tables → ℕ → Result (Hierarchy K F P m) Fault → Type 0
 Accepting k t corners r = MatchResult r (λ h. MultiTriangulation k t × (length t.corners ≤ corners) × Carries k.arity t h) (Refused (hierarchy_rows k t (places_for t corners)))
 
 -- two boxes with the same sides
@@ -44,7 +45,7 @@ pub record SameSides (b d : Extent) : Type 0 where
   pub z : (b.z0 ≡ d.z0) × (b.z1 ≡ d.z1)
 
 -- two hierarchies that do not differ in anything that can be asked of them
-pub record Alike {K F P : Type 0} (g h : Hierarchy K F P) : Type 0 where
+pub record Alike {K F P : Type 0} {m : Ghosts K F P} (g h : Hierarchy K F P m) : Type 0 where
   pub tables : lists_of g.tables ≡ lists_of h.tables
   pub width : g.width ≡ h.width
   pub cells : g.cells ≡ h.cells
@@ -55,12 +56,12 @@ pub record Alike {K F P : Type 0} (g h : Hierarchy K F P) : Type 0 where
   pub takers : vec_items g.takers ≡ vec_items h.takers
 
 -- the same comes of both: hierarchies that do not differ, or the same fault
-abbrev pub SameOutcome : {K F P : Type 0} → Result (Hierarchy K F P) Fault → Result (Hierarchy K F P) Fault → Type 0
+abbrev pub SameOutcome : {K F P : Type 0} {m : Ghosts K F P} → Result (Hierarchy K F P m) Fault → Result (Hierarchy K F P m) Fault → Type 0
 SameOutcome (Ok g) (Ok h) = Alike g h
 SameOutcome (Ok g) (Err f) = ⊥
 SameOutcome (Err f) (Ok h) = ⊥
 SameOutcome (Err e) (Err f) = e ≡ f
 
 -- the check comes to one thing only
-abbrev pub CheckedOnce : (K : Type 0) → {F P : Type 0} → Shape F P → Type 0
-CheckedOnce K {F} {P} k = (t : Tables) (corners : ℕ) (r s : Result (Hierarchy K F P) Fault) → Accepting k t corners r → Accepting k t corners s → SameOutcome r s
+abbrev pub CheckedOnce : {K F P : Type 0} → Ghosts K F P → Shape F P → Type 0
+CheckedOnce {K} {F} {P} m k = (t : Tables) (corners : ℕ) (r s : Result (Hierarchy K F P m) Fault) → Accepting k t corners r → Accepting k t corners s → SameOutcome r s

@@ -8,6 +8,7 @@ use Rattle.owners.specs.Owners.{count_of, part_of}
 use Rattle.rules.specs.Cells.{replacement, makes, takes}
 use Rattle.rules.specs.Raw.{lists_of}
 use Rattle.tables.specs.Tables.{Tables}
+use Rattle.kinds.specs.declared.kind.Kind.{Ghosts}
 use Rattle.hierarchy.specs.declared.hierarchy.Hierarchy.{Hierarchy}
 
 -- the replacement that makes cell c; None where none does
@@ -19,14 +20,14 @@ abbrev pub TakerOf : Tables → ℕ → Option ReplacementId → Type 0
 TakerOf t c r = MatchOption r ((n : ℕ) → takes t n c ≡ false) (λ n. takes t n.0 c ≡ true)
 
 -- number, error and box of replacement n; the box is the one that stands before its number in the hierarchy's list of boxes
-pub record FactsGiven {K F P : Type 0} (h : Hierarchy K F P) (n : ℕ) (f : Facts) : Type 0 where
+pub record FactsGiven {K F P : Type 0} {m : Ghosts K F P} (h : Hierarchy K F P m) (n : ℕ) (f : Facts) : Type 0 where
   pub is : replacement (lists_of h.tables) n ≡ true
   pub number : f.number.0 ≡ n
   pub error : f.error ≡ count_of 0 (lists_of h.tables).replacements (n - 1)
   pub around : slice_get (vec_items h.boxes) (n - 1) ≡ Some f.around
 
 -- None where n is no replacement
-abbrev pub FactsOf : {K F P : Type 0} → Hierarchy K F P → ℕ → Option Facts → Type 0
+abbrev pub FactsOf : {K F P : Type 0} {m : Ghosts K F P} → Hierarchy K F P m → ℕ → Option Facts → Type 0
 FactsOf h n r = MatchOption r (replacement (lists_of h.tables) n ≡ false) (FactsGiven h n)
 
 -- where the taken numbers and the made cells of replacement n begin and how many they are; None where n is no replacement

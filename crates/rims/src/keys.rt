@@ -10,8 +10,8 @@ pub(crate) fn same_numbers(xs: &mut Vec<u64>, ys: &mut Vec<u64>) -> bool
     ensures xs_cap { vec_capacity xs.new ≡ vec_capacity xs.old }
     ensures ys_cap { vec_capacity ys.new ≡ vec_capacity ys.old }
 {
-    xs.sort();
-    ys.sort();
+    xs.sort_unstable();
+    ys.sort_unstable();
     xs.as_slice() == ys.as_slice()
 }
 

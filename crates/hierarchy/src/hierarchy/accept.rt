@@ -12,7 +12,7 @@ use crate::{Hierarchy, Workspace};
 use faults::Fault;
 use kinds::Kind;
 use owners::{Ranged, list_makers, list_parts, list_takers};
-use rules::{RawTables, judge_tables};
+use rules::{RawTables, judge_placed_tables};
 use std::marker::PhantomData;
 use tables::Places;
 
@@ -74,7 +74,7 @@ pub fn accept<'a, K: Kind>(
         replacements: tables.replacements.len(),
         taken: tables.taken.len(),
     };
-    if let Err(fault) = judge_tables::<K>(tables, places) {
+    if let Err(fault) = judge_placed_tables::<K>(tables, places) {
         return Err(fault);
     }
     link::<K>(tables, width, work)
@@ -83,5 +83,5 @@ pub fn accept<'a, K: Kind>(
 // The check comes to one thing only: two hierarchies that were accepted from the same tables do not differ in anything that can be asked of
 // them, and no tables are both accepted and refused, or refused in two ways.
 pub fn tables_are_checked_once<K: Kind>()
-    ensures { CheckedOnce K (shape K.Kind.arity K.Kind.rim K.Kind.sound K.Kind.covers K.Kind.meets K.Kind.alike) }
+    ensures { CheckedOnce K.Kind (shape K.Kind.arity K.Kind.rim K.Kind.sound K.Kind.covers K.Kind.meets K.Kind.alike) }
 {}

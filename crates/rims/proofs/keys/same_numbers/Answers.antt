@@ -10,16 +10,14 @@ pub returns : goal.returns
 returns c =
     let xs = vec_items c.args.xs.now in
     let ys = vec_items c.args.ys.now in
-    let xs' = vec_items c.sort.new.self in
-    let ys' = vec_items c.sort-2.new.self in
-    let lx : length xs' ≡ vec_len c.args.xs.now = omega (arith, c.sort.new.self.ok.0, c.sort.ensures.len) in
-    let ly : length ys' ≡ vec_len c.args.ys.now = omega (arith, c.sort-2.new.self.ok.0, c.sort-2.ensures.len) in
-    let rx : IsNonDecreasing xs' = IsNonDecreasingBy-from_sort (λ x. x) xs' (vec_len c.args.xs.now) lx c.sort.ensures.sorted in
-    let ry : IsNonDecreasing ys' = IsNonDecreasingBy-from_sort (λ x. x) ys' (vec_len c.args.ys.now) ly c.sort-2.ensures.sorted in
+    let xs' = vec_items c.sort_unstable.new.self in
+    let ys' = vec_items c.sort_unstable-2.new.self in
+    let rx : IsNonDecreasing xs' = IsNonDecreasingBy-from_sort (λ x. x) xs' c.sort_unstable.ensures.sorted in
+    let ry : IsNonDecreasing ys' = IsNonDecreasingBy-from_sort (λ x. x) ys' c.sort_unstable-2.ensures.sorted in
     record {
       same = when_alike c.eq.result (slice_eq-Decides Decides-eqb _ _ _ c.eq.ensures)
-          (λ e. level_from_sorted xs ys xs' ys' c.sort.ensures.permutation c.sort-2.ensures.permutation (sym c.as_slice.ensures.value ∙ e ∙ c.as_slice-2.ensures.value))
-          (λ h. c.as_slice.ensures.value ∙ sorted_from_level xs ys xs' ys' c.sort.ensures.permutation c.sort-2.ensures.permutation rx ry h ∙ sym c.as_slice-2.ensures.value);
-      xs_cap = c.sort.ensures.capacity;
-      ys_cap = c.sort-2.ensures.capacity;
+          (λ e. level_from_sorted xs ys xs' ys' c.sort_unstable.ensures.permutation c.sort_unstable-2.ensures.permutation (sym c.as_slice.ensures.value ∙ e ∙ c.as_slice-2.ensures.value))
+          (λ h. c.as_slice.ensures.value ∙ sorted_from_level xs ys xs' ys' c.sort_unstable.ensures.permutation c.sort_unstable-2.ensures.permutation rx ry h ∙ sym c.as_slice-2.ensures.value);
+      xs_cap = c.sort_unstable.ensures.capacity;
+      ys_cap = c.sort_unstable-2.ensures.capacity;
     }
