@@ -1,15 +1,14 @@
 -- Boxes that are widened vertex by vertex. Assumes nothing.
-use Rattle.std.proofs.Common.{◌≡◌, ℕ, ◌+◌, ◌<◌, true, List, length, get_or, take, ℤ, pos, ◌≤ℤ◌, is_some, Some, None, Option, sym, ap, ◌∙◌, subst, arith, w32, SFits, to_z, of_z, MatchOption}
+use Rattle.std.proofs.Common.{◌≡◌, ℕ, ◌+◌, ◌<◌, true, List, length, get_or, take, ℤ, pos, ◌≤ℤ◌, is_some, Some, None, Option, sym, ap, subst, arith, w32, SFits, to_z, of_z, MatchOption}
 use Rattle.std.proofs.lemmas.Int.{ints, to_z-of_z}
 use Rattle.std.proofs.lemmas.List.{get_or-take, length-take, take-take}
 use Rattle.std.proofs.lemmas.Bool.{both_ways}
 use Rattle.std.proofs.ByRecursion.{All-get_or, All-more, All-take, All-weaker}
-use Rattle.std.specs.List.{AllByRecursion}
 use Rattle.boxes.specs.declared.extent.Extent.{Extent}
 use Rattle.boxes.specs.declared.interval.Interval.{Interval}
 use Rattle.boxes.specs.declared.spot.Spot.{Spot}
 use Rattle.boxes.specs.Intervals.{Stretched}
-use Rattle.boxes.specs.Spots.{Contains, Inside, Surrounds, Smallest, Widened, spot}
+use Rattle.boxes.specs.Spots.{Contains, Inside, Surrounds, Widened, spot}
 
 -- three intervals that are stretched make a box that is widened
 pub joined : (b : Extent) (p : Spot) (x y z : Interval) (r : Extent)

@@ -1,17 +1,14 @@
 -- The tables fix what is worked out from them. Assumes nothing.
-use Rattle.std.proofs.Common.{◌≡◌, ℕ, zero, suc, ◌+◌, ◌-◌, ◌<◌, ◌≤◌, true, eqb, List, [], ◌∷◌, length, get_or, ℤ, ◌≤ℤ◌, Some, Ok, Err, vec_items, Option, Result, sym, refl, ap, ◌∙◌, subst, ⊎_elim, arith, MatchOption}
+use Rattle.std.proofs.Common.{◌≡◌, ℕ, suc, ◌+◌, ◌-◌, ◌<◌, List, [], ◌∷◌, length, get_or, ℤ, ◌≤ℤ◌, Some, Ok, Err, vec_items, Option, sym, refl, ap, ◌∙◌, subst, ⊎_elim, arith, MatchOption}
 use Rattle.std.proofs.lemmas.List.{ext_get_or}
 use Rattle.std.proofs.lemmas.Int.{ints}
 use Rattle.std.proofs.lemmas.Bool.{cases_eq, eqb-true, eq-eqb}
 use Rattle.std.specs.List.{AllZip, slice_get}
 use Rattle.boxes.specs.declared.extent.Extent.{Extent}
-use Rattle.boxes.specs.Spots.{Inside, Smallest}
-use Rattle.faults.specs.declared.Fault.{Fault}
+use Rattle.boxes.specs.Spots.{Inside}
 use Rattle.kinds.specs.Shapes.{Shape}
 use Rattle.owners.specs.Owners.{Makers, Takers}
 use Rattle.owners.proofs.Ties.{is_numbered}
-use Rattle.rules.specs.Cells.{replacement}
-use Rattle.rules.specs.Rows.{replacements_in}
 use Rattle.rules.specs.Hierarchies.{hierarchy_rows}
 use Rattle.tables.specs.Tables.{Tables}
 use Rattle.tables.proofs.Rows.{lawful_or_refused, refused_once}

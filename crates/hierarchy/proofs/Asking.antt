@@ -1,12 +1,12 @@
 -- What the lists of makers, takers and ranges answer. Assumes nothing.
-use Rattle.std.proofs.Common.{◌≡◌, ℕ, ◌+◌, ◌-◌, ◌<◌, ◌≤◌, Bool, true, false, ◌&&◌, eqb, leb, List, length, get_or, Some, None, Option, sym, refl, ap, ◌∙◌, ⊎_elim, arith, MatchOption}
+use Rattle.std.proofs.Common.{◌≡◌, ℕ, ◌+◌, ◌-◌, ◌<◌, ◌≤◌, Bool, true, false, eqb, List, length, get_or, Some, None, Option, sym, ap, ◌∙◌, ⊎_elim, arith, MatchOption}
 use mathlib.Core.Bool.{Bool-set}
 use mathlib.Core.Logic.{∥∥₁_elim, ∥∥₁_map₂}
 use native.Mathlib.Nat.{ℕ_set}
-use Rattle.std.proofs.lemmas.Bool.{cases_Bool, cases_lt, and_parts, eqb-true, eq-eqb, ne_eqb, both_ways}
+use Rattle.std.proofs.lemmas.Bool.{cases_Bool, and_parts, eqb-true, eq-eqb}
 use Rattle.kinds.specs.declared.numbers.ReplacementId.{ReplacementId}
 use Rattle.owners.specs.declared.part.Part.{Part}
-use Rattle.owners.specs.Owners.{Makers, Takers, cells_made, part_of, parts_of}
+use Rattle.owners.specs.Owners.{Makers, Takers, part_of, parts_of}
 use Rattle.owners.proofs.Listing.{parts-length, part_read}
 use Rattle.owners.proofs.Ties.{numbered, is_numbered}
 use Rattle.tables.specs.Tables.{Tables}

@@ -1,5 +1,5 @@
 -- The corners of cells that follow on one another, and lists with one entry more. Assumes nothing.
-use Rattle.std.proofs.Common.{◌≡◌, ℕ, zero, suc, ◌+◌, ◌*◌, ◌<◌, ◌≤◌, List, [], ◌∷◌, ◌++◌, length, take, drop, ℤ, Some, sym, refl, ap, ◌∙◌, subst, add_comm, mul-zero, mul-add, arith, take-add}
+use Rattle.std.proofs.Common.{◌≡◌, ℕ, zero, suc, ◌+◌, ◌*◌, ◌<◌, List, [], ◌∷◌, ◌++◌, length, take, drop, ℤ, Some, sym, refl, ap, ◌∙◌, mul-zero, mul-add, arith, take-add}
 use Rattle.std.proofs.lemmas.List.{drop-drop}
 use Rattle.std.specs.List.{range_with_len, flat_map, slice_get}
 use Rattle.rules.specs.Raw.{cell}

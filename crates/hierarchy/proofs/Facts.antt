@@ -1,5 +1,5 @@
 -- What the plain rules give to those who build on them. Assumes nothing.
-use Rattle.std.proofs.Common.{◌≡◌, ℕ, zero, suc, ◌+◌, ◌-◌, ◌*◌, ◌/◌, ◌<◌, ◌≤◌, Bool, true, cond, List, [], ◌∷◌, ◌++◌, length, get_or, take, drop, ℤ, pos, negsuc, nat_abs, ◌≤ℤ◌, ◌<ℤ◌, is_some, Some, None, sym, refl, ap, ◌∙◌, subst, ⊎_elim, mul_comm, mul-le-mul_left, le-div_iff_mul-le, mul-add, arith}
+use Rattle.std.proofs.Common.{◌≡◌, ℕ, zero, suc, ◌+◌, ◌-◌, ◌*◌, ◌/◌, ◌<◌, ◌≤◌, Bool, true, cond, List, length, get_or, take, drop, ℤ, pos, negsuc, nat_abs, ◌<ℤ◌, is_some, Some, None, sym, ap, ◌∙◌, subst, ⊎_elim, mul_comm, mul-le-mul_left, le-div_iff_mul-le, mul-add, arith}
 use native.Mathlib.Nat.{div-eq_of_eq-mul_right}
 use Rattle.std.proofs.ByRecursion.{All-append, All-get_or, All-weaker}
 use Rattle.std.proofs.lemmas.List.{get_or-take, get_or-drop, length-append, length-take, length-take-le, length-drop}
@@ -7,23 +7,20 @@ use Rattle.std.proofs.lemmas.Int.{ints}
 use Rattle.std.proofs.lemmas.Bool.{cases_lt, lt-ltb}
 use Rattle.std.specs.List.{range_with_len, flat_map, AllByRecursion}
 use Rattle.boxes.specs.declared.spot.Spot.{Spot}
-use Rattle.boxes.specs.Spots.{spot, Spotted}
+use Rattle.boxes.specs.Spots.{spot}
 use Rattle.kinds.specs.Shapes.{Shape}
 use Rattle.owners.specs.Owners.{cells_made, count_of}
 use Rattle.owners.proofs.Ties.{numbered}
-use Rattle.rims.specs.Rims.{Fitting}
-use Rattle.rules.specs.Cells.{replacement, made_cells}
 use Rattle.rules.specs.Rows.{cells_in, replacements_in}
 use Rattle.rules.specs.Raw.{at, cell, field}
 use Rattle.rules.specs.Ranges.{before, first_made, taken_by}
-use Rattle.rules.specs.Values.{Numbered, CornersKept}
+use Rattle.rules.specs.Values.{Numbered}
 use Rattle.rules.proofs.Cells.{range_within}
 use Rattle.rules.proofs.Ranges.{before_rises, range_ends, cells_add_up, lists_add_up}
 use Rattle.rules.proofs.Rows.{Plain}
 use Rattle.tables.specs.declared.contents.Places.{Places}
-use Rattle.tables.specs.Judging.{Clear}
-use Rattle.tables.specs.Tables.{Tables, VerticesCounted, CellsCounted, ReplacementsCounted, TakenCounted}
-use Rattle.hierarchy.specs.Derived.{made_corners, RimsFit, BoxReady, BoxesReady}
+use Rattle.tables.specs.Tables.{Tables, CellsCounted, ReplacementsCounted, TakenCounted}
+use Rattle.hierarchy.specs.Derived.{made_corners, RimsFit, BoxesReady}
 
 -- ---- numbers
 wider : (z : ℤ) (a b : ℕ) → a ≤ b → Numbered a z → Numbered b z

@@ -1,5 +1,5 @@
 -- Rules that are judged in two parts, and places that tables have themselves. Assumes nothing.
-use Rattle.std.proofs.Common.{ℕ, zero, suc, ◌<◌, ◌≤◌, List, [], ◌∷◌, ◌++◌, length, inl, inr, ⊎_elim, arith}
+use Rattle.std.proofs.Common.{ℕ, zero, suc, ◌≤◌, List, [], ◌∷◌, ◌++◌, length, inl, inr, ⊎_elim, arith}
 use Rattle.faults.specs.declared.Fault.{Fault}
 use Rattle.kinds.specs.Shapes.{Shape}
 use Rattle.tables.specs.declared.contents.Places.{Places}

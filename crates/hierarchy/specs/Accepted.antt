@@ -1,5 +1,5 @@
 -- What the check comes to. Assumes nothing.
-use Rattle.std.specs.Prelude.{◌≡◌, ℕ, ◌≤◌, List, length, ℤ, Ok, Err, vec_items, Result, MatchResult}
+use Rattle.std.specs.Prelude.{◌≡◌, ℕ, ◌≤◌, length, Ok, Err, vec_items, Result, MatchResult}
 use Rattle.std.specs.List.{AllZip}
 use Rattle.boxes.specs.declared.extent.Extent.{Extent}
 use Rattle.faults.specs.declared.Fault.{Fault}

@@ -32,7 +32,7 @@ fn rim_kept<K: Kind>(tables: RawTables<'_>, part: Part, rims: &mut RimMemory) ->
     );
     match stays {
         Some(kept) => kept,
-        None => unreachable(),
+        None => unreachable!(),
     }
 }
 

@@ -30,7 +30,7 @@ fn box_of(tables: RawTables<'_>, width: usize, part: Part) -> Extent
         made_corners(tables.corners, width, part),
     ) {
         Some(around) => around,
-        None => unreachable(),
+        None => unreachable!(),
     }
 }
 

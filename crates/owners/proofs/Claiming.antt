@@ -1,16 +1,16 @@
 -- The pass over the taken numbers that notes the taker of each cell. Assumes nothing.
-use Rattle.std.proofs.Common.{◌≡◌, ℕ, zero, suc, ◌+◌, ◌-◌, ◌<◌, ◌≤◌, true, eqb, ◌≢◌, ◌⊎◌, List, length, get_or, set, replicate, ℤ, pos, nat_abs, sym, refl, ap, ◌∙◌, subst, inl, inr, ⊎_elim, arith, length-set, get_or-set_other, get_or-set_same}
+use Rattle.std.proofs.Common.{◌≡◌, ℕ, zero, suc, ◌+◌, ◌-◌, ◌<◌, ◌≤◌, eqb, ◌≢◌, List, length, get_or, set, replicate, pos, nat_abs, sym, ap, ◌∙◌, subst, ⊎_elim, arith, length-set, get_or-set_other, get_or-set_same}
 use Rattle.std.proofs.lemmas.Bool.{cases_lt, cases_eq, eq-eqb, eqb-true}
 use Rattle.std.proofs.lemmas.List.{get_or-replicate, get_or_past}
 use Rattle.tables.specs.Judging.{Clear, First}
 use Rattle.tables.specs.Tables.{Tables}
-use Rattle.rules.specs.Cells.{replacement, takes}
+use Rattle.rules.specs.Cells.{takes}
 use Rattle.rules.specs.Rows.{replacements_in}
 use Rattle.rules.specs.Links.{FreshKept}
 use Rattle.rules.specs.Raw.{at}
 use Rattle.rules.specs.Ranges.{before}
 use Rattle.owners.specs.Owners.{count_of, Takers}
-use Rattle.owners.specs.Spans.{reach, Spans}
+use Rattle.owners.specs.Spans.{Spans}
 use Rattle.owners.proofs.Spans.{spans_one, reach_mono}
 use Rattle.owners.proofs.Ties.{same_test, numbered, taken_at, takes_at}
 

@@ -1,15 +1,15 @@
 -- What the words on raw tables say of stretches: which cells a replacement makes, and which it takes. Assumes nothing.
-use Rattle.std.proofs.Common.{◌≡◌, ℕ, zero, suc, ◌+◌, ◌-◌, ◌<◌, ◌≤◌, Bool, true, false, ◌&&◌, ◌||◌, eqb, leb, List, [], ◌∷◌, map, length, get_or, take, drop, ℤ, pos, nat_abs, sym, refl, ap, ◌∙◌, subst, ⊎_elim, arith}
+use Rattle.std.proofs.Common.{◌≡◌, ℕ, zero, suc, ◌+◌, ◌-◌, ◌<◌, ◌≤◌, Bool, true, false, eqb, leb, List, [], ◌∷◌, map, length, get_or, take, drop, ℤ, pos, nat_abs, sym, refl, ap, ◌∙◌, subst, ⊎_elim, arith}
 use Rattle.std.specs.List.{range_with_len}
 use Rattle.std.proofs.lemmas.List.{get_or-take, get_or-drop, length-take-le, length-drop, get_or-map, length-map}
 use Rattle.std.proofs.lemmas.Bool.{and_parts, and_from, or_cases, or_left, or_right, eqb-true, eqb-false, eq-eqb, leb-true, le-leb, cases_Bool, both_ways}
 use Rattle.tables.specs.Tables.{Tables}
 use Rattle.rules.specs.Cells.{replacement, base_cells, made_cells, taken_cells, some, makes, takes}
 use Rattle.rules.specs.Rows.{replacements_in}
-use Rattle.rules.specs.Raw.{at, field}
-use Rattle.rules.specs.Ranges.{before, first_made, taken_by}
-use Rattle.owners.specs.Owners.{count_of, Makers, Takers}
-use Rattle.owners.specs.Spans.{reach, Spans}
+use Rattle.rules.specs.Raw.{at}
+use Rattle.rules.specs.Ranges.{before, first_made}
+use Rattle.owners.specs.Owners.{count_of, Makers}
+use Rattle.owners.specs.Spans.{Spans}
 use Rattle.owners.proofs.Spans.{reach_more, reach_mono, spans_one}
 
 -- two tests that hold of the same

@@ -1,9 +1,8 @@
 -- The keys of one facet, or of one cell's facets, more. Assumes nothing.
-use Rattle.std.proofs.Common.{◌≡◌, ℕ, zero, suc, ◌+◌, ◌≤◌, Bool, true, false, cond, List, [], ◌∷◌, ◌++◌, length, take, Some, None, vec_items, Option, Vec, sym, refl, ap, ◌∙◌, subst, append_assoc, append-nil, add-one, arith}
+use Rattle.std.proofs.Common.{◌≡◌, ℕ, zero, suc, ◌+◌, ◌≤◌, Bool, true, false, cond, List, [], ◌∷◌, ◌++◌, length, take, Some, None, vec_items, Vec, sym, refl, ap, ◌∙◌, append_assoc, append-nil, add-one, arith}
 use Rattle.std.specs.List.{range_with_len, flat_map, slice_get}
 use Rattle.std.proofs.ByRecursion.{All-append}
 use Rattle.kinds.specs.declared.kind.Signed.{Signed}
-use Rattle.kinds.specs.Facets.{AllReal}
 use Rattle.rims.specs.Keys.{pluses, minuses, Noted}
 
 module _ {F : Type 0} (key : F → ℕ) where

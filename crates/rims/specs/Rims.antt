@@ -1,5 +1,5 @@
 -- The rim of cells, and when two lists of cells have the same. Assumes nothing.
-use Rattle.std.specs.Prelude.{◌≡◌, ℕ, ◌+◌, ◌/◌, ◌≤◌, Bool, List, length, ℤ}
+use Rattle.std.specs.Prelude.{◌≡◌, ℕ, ◌+◌, ◌/◌, ◌≤◌, List, length, ℤ}
 use Rattle.std.specs.List.{flat_map, AllByRecursion}
 use Rattle.kinds.specs.declared.kind.Signed.{Signed}
 use Rattle.kinds.specs.Shapes.{Shape, tally}

@@ -8,17 +8,15 @@ use std::alloc::{AllocError, Global};
 
 impl Workspace {
     // Gets memory to check hierarchies of at most `corners` corners in all, or finds none.
-    pub fn new(heap: Global, corners: usize) -> Result<Workspace, AllocError>
+    pub fn new(heap: Global, corners: u32) -> Result<Workspace, AllocError>
         ensures { IfOk result (λ w. w.corners ≡ corners) }
     {
-        let Some(room) = corners.checked_mul(2) else {
-            return Err(AllocError);
-        };
+        let corners = corners as usize;
         let parts = Blank::new(heap)?;
         let boxes = Blank::new(heap)?;
         let makers = Blank::new(heap)?;
         let takers = Blank::new(heap)?;
-        let rims = RimMemory::new(heap, room)?;
+        let rims = RimMemory::new(heap, 2 * corners)?;
         Ok(Workspace {
             corners,
             parts,

@@ -1,6 +1,6 @@
-use Rattle.std.proofs.Common.{◌≡◌, ℕ, ◌+◌, ◌<◌, List, map, length, take, drop, nat_abs, sym, refl, ap, ◌∙◌, subst, arith}
+use Rattle.std.proofs.Common.{◌≡◌, ℕ, ◌+◌, List, map, length, take, drop, nat_abs, sym, refl, ◌∙◌, subst, arith}
 use Rattle.std.specs.List.{range_with_len}
-use Rattle.kinds.specs.Shapes.{Shape, shape}
+use Rattle.kinds.specs.Shapes.{shape}
 use Rattle.owners.specs.declared.part.Part.{Part}
 use Rattle.owners.specs.Owners.{part_of}
 use Rattle.owners.proofs.Listing.{parts-length, part_read}

@@ -1,13 +1,12 @@
-use Rattle.std.proofs.Common.{◌≡◌, ℕ, ◌+◌, ◌-◌, ◌*◌, ◌<◌, ◌≤◌, true, List, [], ◌∷◌, ◌++◌, length, take, drop, ℤ, vec_items, vec_len, Option, sym, refl, ap, ◌∙◌, subst, ⊎_elim, arith, MatchOption}
+use Rattle.std.proofs.Common.{◌≡◌, ℕ, ◌+◌, ◌-◌, ◌*◌, ◌≤◌, List, [], ◌∷◌, ◌++◌, length, take, drop, ℤ, vec_items, Option, sym, ap, ◌∙◌, subst, ⊎_elim, arith, MatchOption}
 use Rattle.std.proofs.lemmas.Bool.{cases_lt}
 use Rattle.std.specs.List.{slice_get}
 use Rattle.boxes.specs.declared.extent.Extent.{Extent}
 use Rattle.boxes.specs.Spots.{Smallest, Spotted}
 use Rattle.owners.specs.declared.part.Part.{Part}
-use Rattle.owners.specs.Owners.{count_of, part_of}
+use Rattle.owners.specs.Owners.{count_of}
 use Rattle.owners.proofs.Listing.{parts-length, part_read}
 use Rattle.owners.proofs.Ties.{is_numbered, numbered}
-use Rattle.rules.specs.Cells.{replacement}
 use Rattle.rules.specs.Rows.{replacements_in}
 use Rattle.rules.specs.Ranges.{first_made}
 use Rattle.rules.specs.Raw.{lists_of}

@@ -1,4 +1,4 @@
-use Rattle.std.proofs.Common.{◌≡◌, ℕ, ◌-◌, ◌≤◌, true, length, vec_items, vec_len, vec_capacity, MatchOption}
+use Rattle.std.proofs.Common.{◌≡◌, ℕ, ◌-◌, ◌≤◌, true, vec_items, vec_len, vec_capacity, MatchOption}
 use Rattle.std.specs.List.{slice_get}
 use Rattle.rules.specs.Cells.{replacement}
 use Rattle.rules.specs.Raw.{lists_of}

@@ -1,4 +1,4 @@
-use Rattle.std.proofs.Common.{◌≡◌, ℕ, List, ◌++◌, map, ℤ, nat_abs, vec_items, sym, ap, ◌∙◌, subst}
+use Rattle.std.proofs.Common.{◌≡◌, ℕ, List, ◌++◌, map, nat_abs, vec_items, sym, ap, ◌∙◌, subst}
 use Rattle.std.specs.List.{range_with_len, flat_map}
 use Rattle.rules.specs.Raw.{cell}
 use Rattle.rims.specs.Keys.{pluses, minuses, SameNumbers}

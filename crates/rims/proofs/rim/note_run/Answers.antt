@@ -1,6 +1,5 @@
-use Rattle.std.proofs.Common.{◌≡◌, ℕ, ◌+◌, ◌*◌, List, [], ◌∷◌, ◌++◌, length, ℤ, sym, ap, ◌∙◌, subst, arith}
+use Rattle.std.proofs.Common.{◌≡◌, ℕ, ◌+◌, ◌*◌, List, ◌++◌, length, ℤ, sym, ap, ◌∙◌, subst, arith}
 use Rattle.std.specs.List.{range_with_len, flat_map}
-use Rattle.kinds.specs.declared.kind.Signed.{Signed}
 use Rattle.rules.specs.Raw.{cell}
 use Rattle.rims.specs.Keys.{Noted}
 use Rattle.rims.proofs.Cells.{cell-length, room_more, times_more}

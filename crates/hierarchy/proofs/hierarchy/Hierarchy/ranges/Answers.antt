@@ -1,4 +1,4 @@
-use Rattle.std.proofs.Common.{◌≡◌, ℕ, ◌-◌, ◌≤◌, List, vec_items, ap, ◌∙◌, arith}
+use Rattle.std.proofs.Common.{ℕ, ◌≤◌, vec_items, ap, ◌∙◌, arith}
 use Rattle.owners.specs.declared.part.Part.{Part}
 use Rattle.owners.proofs.Ties.{is_numbered}
 use Rattle.rules.specs.Rows.{replacements_in}

@@ -1,11 +1,11 @@
-use Rattle.std.proofs.Common.{◌≡◌, ℕ, ◌+◌, ◌*◌, ◌/◌, ◌<◌, ◌≤◌, length, vec_items, vec_len, sym, refl, ap, ◌∙◌, subst, arith}
-use Rattle.kinds.specs.Shapes.{Shape, shape}
+use Rattle.std.proofs.Common.{◌≡◌, ℕ, ◌/◌, length, vec_items, sym, refl, ap, ◌∙◌, subst, arith}
+use Rattle.kinds.specs.Shapes.{shape}
 use Rattle.owners.specs.Owners.{cells_made}
 use Rattle.owners.proofs.Listing.{parts-length}
 use Rattle.rules.specs.Raw.{lists_of}
-use Rattle.rules.proofs.Rows.{Plain, plainly}
+use Rattle.rules.proofs.Rows.{plainly}
 use Rattle.hierarchy.specs.Accepted.{places_for}
-use Rattle.hierarchy.specs.Derived.{BoxesReady, Ordered}
+use Rattle.hierarchy.specs.Derived.{BoxesReady}
 use Rattle.hierarchy.proofs.Facts.{adds_up, few_cells, few, short, listed, takes, known, corners_room, rims_fit, boxes_ready}
 use Rattle.hierarchy.proofs.hierarchy.accept.link.Goals as goal
 

@@ -1,4 +1,4 @@
-use Rattle.std.proofs.Common.{◌≡◌, ℕ, ◌+◌, ◌*◌, ◌≤◌, List, length, ℤ, subst, arith}
+use Rattle.std.proofs.Common.{ℕ, ◌+◌, ◌*◌, ◌≤◌, List, length, ℤ, subst, arith}
 use Rattle.rims.specs.Rims.{Fitting}
 use Rattle.rims.proofs.Cells.{within}
 use Rattle.rims.proofs.memory.RimMemory.rim_stays.Goals as goal
