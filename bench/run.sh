@@ -12,7 +12,7 @@ root=$(dirname "$bench")
 if [ -n "${PROVED_LIB:-}" ]; then
     library=$PROVED_LIB
 else
-    (cd "$root" && rt staticlib linebench) >&2
+    "$root/tools/staticlib" linebench >&2
     library=$root/target/staticlib/liblinebench.a
 fi
 

@@ -1,7 +1,7 @@
 /* Checks order lines from standard input as the office's order form does, and prints the answer to each.
  *
  * Build and run, from the repository's root:
- *     rt staticlib office && cc -Iinclude -o target/orderform_c examples/orderform.c target/staticlib/liboffice.a
+ *     tools/staticlib office && cc -Iinclude -o target/orderform_c examples/orderform.c target/staticlib/liboffice.a
  *     target/orderform_c < examples/orders.txt
  */
 #include <stdint.h>

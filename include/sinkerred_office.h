@@ -1,7 +1,7 @@
 /* The office's order form: whether a line is a well formed order.
  *
  * The function is proved; its source is crates/office, and target/staticlib/liboffice.a holds it once
- * `rt staticlib office` was run.
+ * `tools/staticlib office` was run.
  */
 #ifndef SINKERRED_OFFICE_H
 #define SINKERRED_OFFICE_H
