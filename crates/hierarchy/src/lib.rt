@@ -2,7 +2,7 @@
 #![tactic(auto)]
 
 mod hierarchy;
-mod rims;
+mod rim_rule;
 mod surroundings;
 mod workspace;
 

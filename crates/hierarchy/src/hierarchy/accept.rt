@@ -6,7 +6,7 @@ ghost use Rattle.rules.specs.Raw.{lists_of};
 ghost use Rattle.rules.specs.Hierarchies.{linked_rows, plain_rows};
 ghost use Rattle.tables.specs.Judging.{Lawful, Refused};
 
-use crate::rims::judge_rims;
+use crate::rim_rule::judge_rims;
 use crate::surroundings::list_boxes;
 use crate::{Hierarchy, Workspace};
 use faults::Fault;

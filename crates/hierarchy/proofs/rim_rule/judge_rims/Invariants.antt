@@ -3,7 +3,7 @@ use Rattle.kinds.specs.Shapes.{shape}
 use Rattle.rules.specs.Links.{RimKept}
 use Rattle.rules.specs.Raw.{lists_of}
 use Rattle.tables.specs.Judging.{Clear}
-use Rattle.hierarchy.proofs.rims.judge_rims.Given as goal
+use Rattle.hierarchy.proofs.rim_rule.judge_rims.Given as goal
 
 abbrev pub invariant-loop-i : goal.invariant-loop-i
 invariant-loop-i g l =

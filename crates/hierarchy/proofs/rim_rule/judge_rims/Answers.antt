@@ -11,7 +11,7 @@ use Rattle.rules.specs.Links.{RimKept}
 use Rattle.rules.specs.Raw.{lists_of}
 use Rattle.rules.proofs.Growing.{clear_more}
 use Rattle.tables.specs.Judging.{Clear}
-use Rattle.hierarchy.proofs.rims.judge_rims.Goals as goal
+use Rattle.hierarchy.proofs.rim_rule.judge_rims.Goals as goal
 
 pub rim_kept-requires : goal.rim_kept-requires
 rim_kept-requires g c =

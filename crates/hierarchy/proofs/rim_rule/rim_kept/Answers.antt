@@ -2,7 +2,7 @@ use Rattle.std.proofs.Common.{List, map, ℤ, nat_abs, MatchBool, subst}
 use Rattle.std.specs.List.{range_with_len}
 use Rattle.kinds.specs.Shapes.{shape}
 use Rattle.rims.specs.Rims.{SameRim}
-use Rattle.hierarchy.proofs.rims.rim_kept.Goals as goal
+use Rattle.hierarchy.proofs.rim_rule.rim_kept.Goals as goal
 
 pub returns : goal.returns
 returns g c =
