@@ -33,7 +33,7 @@ pub record Carries {K F P : Type 0} {m : Ghosts K F P} (k : ℕ) (t : Tables) (h
   pub takers_long : length (vec_items h.takers) ≡ cells_in k t
   pub takers : Takers t (vec_items h.takers)
 
--- Tables are accepted where they are a MultiTriangulation of the kind and there are places for their corners; else the first broken rule is
+-- Tables are accepted where they are a Multi-Triangulation of the kind and there are places for their corners; else the first broken rule is
 -- told, at its lowest place.
 abbrev pub Accepting : {K F P : Type 0} {m : Ghosts K F P} → Shape F P → Tables → ℕ → Result (Hierarchy K F P m) Fault → Type 0
 Accepting k t corners r = MatchResult r (λ h. MultiTriangulation k t × (length t.corners ≤ corners) × Carries k.arity t h) (Refused (hierarchy_rows k t (places_for t corners)))

@@ -39,7 +39,7 @@ module _ {F P : Type 0} (k : Shape F P) (t : Tables) where
     earlier = x.1.1.1.1.1.1.0;
   }
 
-  -- a MultiTriangulation keeps all of them
+  -- a Multi-Triangulation keeps all of them
   pub plain_and_linked : MultiTriangulation k t → Plain k t (own_places t) × Linked k t
   plain_and_linked x =
       let parts = lawful_parts (plain_rows k t (own_places t)) (linked_rows k t) x in

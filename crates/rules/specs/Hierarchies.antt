@@ -1,5 +1,5 @@
 -- All rules of a hierarchy, for a kind of cell seen as a shape, in the order in which they are judged, each over its whole table; and what it
--- is to be a MultiTriangulation: all of them hold. Assumes nothing.
+-- is to be a Multi-Triangulation: all of them hold. Assumes nothing.
 use Rattle.std.specs.Prelude.{ℕ, Bool, ℤ, ◌≡◌, ◌+◌, List, [], ◌∷◌, ◌++◌, Result, MatchResult}
 use Rattle.faults.specs.declared.Fault.{Fault}
 use Rattle.faults.specs.declared.Refusal.TheVariants.{CountOffLimits, CoordinateOffRange, ErrorOffRange, NoSuchVertex, CellNotSound, NoRefinement, TakesNoEarlierCell, TakesTwice, RimBroken}
@@ -39,7 +39,7 @@ linked_rows k t =
 abbrev pub hierarchy_rows : {F P : Type 0} → Shape F P → Tables → Places → List Row
 hierarchy_rows k t p = plain_rows k t p ++ linked_rows k t
 
--- A MultiTriangulation of a kind: tables that keep every rule. (A table has places for its own entries.)
+-- A Multi-Triangulation of a kind: tables that keep every rule. (A table has places for its own entries.)
 abbrev pub MultiTriangulation : {F P : Type 0} → Shape F P → Tables → Type 0
 MultiTriangulation k t = Lawful (hierarchy_rows k t (own_places t))
 

@@ -22,6 +22,6 @@ pub record Level {F P : Type 0} (k : Shape F P) (t : Tables) (these those : List
   pub facets : (f : F) → tally k f (facets_of k t these) ≡ tally k f (facets_of k t those)
   pub covered : (p : P) → OffFacets k t p these → OffFacets k t p those → times_covered k t p these ≡ times_covered k t p those
 
--- the mesh of every closed set of a MultiTriangulation is level with the coarse mesh
+-- the mesh of every closed set of a Multi-Triangulation is level with the coarse mesh
 abbrev pub MeshesAreLevel : {F P : Type 0} → Shape F P → Type 0
 MeshesAreLevel k = (t : Tables) (H : ℕ → Bool) → MultiTriangulation k t → Closed t H → Level k t (mesh_cells k.arity t H) (base_cells t)
