@@ -30,9 +30,10 @@ pub record FactsGiven {K F P : Type 0} {m : Ghosts K F P} (h : Hierarchy K F P m
 abbrev pub FactsOf : {K F P : Type 0} {m : Ghosts K F P} → Hierarchy K F P m → ℕ → Option Facts → Type 0
 FactsOf h n r = MatchOption r (replacement (lists_of h.tables) n ≡ false) (FactsGiven h n)
 
--- where the taken numbers and the made cells of replacement n begin and how many they are; None where n is no replacement
+-- the error of replacement n, and where its taken numbers and its made cells begin and how many they are; None where n is no replacement
 pub record RangesGiven (t : Tables) (n : ℕ) (p : Part) : Type 0 where
   pub is : replacement t n ≡ true
+  pub error : p.error ≡ (part_of t n).error
   pub list : p.list ≡ (part_of t n).list
   pub takes : p.takes ≡ (part_of t n).takes
   pub first : p.first ≡ (part_of t n).first

@@ -16,6 +16,7 @@ returns g c =
     let read = λ (f : Part → ℕ). ap f c.index.ensures ∙ range_asked t (vec_items h.parts) h.ranged n _ among.0 high f in
     record {
       is = is_numbered t n among.0 high;
+      error = read (λ p. p.error);
       list = read (λ p. p.list);
       takes = read (λ p. p.takes);
       first = read (λ p. p.first);
