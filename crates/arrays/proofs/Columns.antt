@@ -10,7 +10,7 @@ use Rattle.scanner.specs.Scanner.{Step, Passed, Missed, Lost}
 use Rattle.scanner.specs.declared.Scanner.{Scanner}
 use Rattle.scanner.proofs.Steps.{step_on, lost_after, lost_by, lost_first, lost_before, step_says, step_before, mark_step, mark_last, still}
 use Rattle.arrays.specs.Sink.{Filling, put}
-use Rattle.arrays.specs.Listing.{NumberKept, RowKept, RowSoFar, lead}
+use Rattle.arrays.specs.Listing.{NumberKept, RowKept, RowSoFar, Separated, NotSeparated, comma, lead}
 use Rattle.arrays.proofs.Lists.{parts-push, puts-push}
 
 left_apt : (m : ℕ) (K : Form) → Apt K → Apt (onto (row_left m) K)
@@ -21,17 +21,16 @@ columns_clear : (n : ℕ) (K : Form) → Apt K → BlankFree (onto (columns 0 n)
 columns_clear zero K apt = refl
 columns_clear (suc n) K apt = refl
 
-module _ {r : Scanner} where
-  pub no_comma : (i : ℕ) → i ≡ 0 → (m : ℕ) → Step r r (columns i (suc m)) (whole then row_left m) (lead i)
-  no_comma i e m = subst (λ (k : ℕ). Step r r (columns k (suc m)) (whole then row_left m) (lead k)) (sym e) (still (whole then row_left m) (whole then row_left m) (λ L K e apt h. h))
+-- what comes before a number of a row
+columns_comma : (i m : ℕ) → columns i (suc m) ≡ comma i (whole then row_left m)
+columns_comma zero m = refl
+columns_comma (suc i) m = refl
 
-  pub comma : {s : Scanner} (i : ℕ) → (i ≡ 0 → ⊥) → Passed r s 44 → (m : ℕ) → Step r s (columns i (suc m)) (whole then row_left m) (lead i)
-  comma zero some p m = absurd (some refl)
-  comma (suc i) some p m = mark_step p (whole then row_left m) (λ K apt. refl)
+pub comma_step : (i m : ℕ) {r s : Scanner} → Separated r s i → Step r s (columns i (suc m)) (whole then row_left m) (lead i)
+comma_step i m {r} {s} x = subst (λ (F : Form). Step r s F (whole then row_left m) (lead i)) (sym (columns_comma i m)) (x.step (whole then row_left m) (λ K apt. refl))
 
-  pub comma_lost : {f : Fault} (i : ℕ) → (i ≡ 0 → ⊥) → Missed r (sign 44) f → (m : ℕ) → Lost r (columns i (suc m)) f
-  comma_lost zero some x m = absurd (some refl)
-  comma_lost (suc i) some x m = lost_first (whole then row_left m) x
+pub comma_missed : (i m : ℕ) {r : Scanner} {f : Fault} → NotSeparated r i f → Lost r (columns i (suc m)) f
+comma_missed i m {r} {f} x = subst (λ (F : Form). Lost r F f) (sym (columns_comma i m)) (x.lost (whole then row_left m))
 
 pub row_none : {n : ℕ} {r : Scanner} {t : Filling} → RowSoFar n 0 r r t t
 row_none {n} {r} {t} =

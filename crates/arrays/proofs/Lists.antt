@@ -1,61 +1,60 @@
 -- Arrays, entry by entry. Assumes nothing.
-use Rattle.std.proofs.Common.{◌≡◌, ℕ, ◌+◌, ◌<◌, ◌≤◌, Bool, true, false, eqb, List, [], ◌∷◌, ◌++◌, length, drop, ℤ, Some, sym, refl, ap, ◌∙◌, subst, append_assoc, append-nil, add-one, arith}
+use Rattle.std.proofs.Common.{◌≡◌, ℕ, suc, ◌+◌, ◌-◌, ◌<◌, ◌≤◌, eqb, List, [], ◌∷◌, ◌++◌, length, ℤ, Some, Result, sym, refl, ap, ◌∙◌, subst, append_assoc, append-nil, add-one, arith, MatchResult}
 use Rattle.std.specs.List.{AllByRecursion}
 use Rattle.std.proofs.ByRecursion.{All-push}
 use Rattle.std.proofs.lemmas.List.{length_push}
+use Rattle.std.proofs.lemmas.Result.{MatchResult-weaker}
 use Rattle.faults.specs.declared.Fault.{Fault}
 use Rattle.forms.specs.Form.{Form, nothing, ◌then◌, Token, symbol}
-use Rattle.forms.specs.Array.{sign, whole, row, tail, inner, listed, among, parts, array}
-use Rattle.forms.specs.Progress.{ahead, onto, Element}
+use Rattle.forms.specs.Array.{sign, whole, row, tail, inner, listed, among, parts, array, single, row_tokens}
+use Rattle.forms.specs.Progress.{onto, Element}
 use Rattle.forms.proofs.Onto.{shuns, shuns_mark, or_left, or_right, many_on, many_off}
-use Rattle.scanner.specs.Scanner.{text, Step, Passed, Missed, Lost}
+use Rattle.scanner.specs.Scanner.{text, next_byte, Step, Passed, Missed, Lost}
 use Rattle.scanner.specs.declared.Scanner.{Scanner}
 use Rattle.scanner.proofs.Steps.{step_on, lost_after, lost_by, lost_first, lost_before, step_says, step_before, mark_step, mark_last, still}
 use Rattle.arrays.specs.Sink.{Filling, put, puts, put_all, put_rows, flat}
-use Rattle.arrays.specs.Listing.{Kept, Listing, rest, lead, Goes}
+use Rattle.arrays.specs.Listing.{Comes, Ended, Separated, NotSeparated, Kept, Listing, rest, lead, Any, Several, Long, Rows, NumbersKept, RowsKept}
 
-pub whole_element : Element whole
-whole_element = record { clear = λ K. refl; ends = λ K. refl }
+above : {n : ℕ} → (n ≡ 0 → ⊥) → suc (n - 1) ≡ n
+above some = omega (arith, some)
 
-pub row_element : (n : ℕ) → Element (row n)
-row_element n = record { clear = λ K. refl; ends = λ K. refl }
+-- what comes after so many entries
+module _ {r : Scanner} {n : ℕ} where
+  pub first_comes : n ≡ 0 → (next_byte r ≡ Some 93 → ⊥) → Comes r n
+  first_comes e no_end = subst (Comes r) (sym e) (record { step = λ F el. still (inner F) (F then tail F) (λ L K e apt h. or_right refl (shuns_mark no_end) h) })
 
-module _ {r : Scanner} (F : Form) (el : Element F) where
-  pub first_some : (ahead (drop r.at (text r)) ≡ Some 93 → ⊥) → Step r r (inner F) (F then tail F) []
-  first_some no_end = still (inner F) (F then tail F) (λ L K e apt h. or_right refl (shuns_mark no_end) h)
+  pub first_ended : n ≡ 0 → next_byte r ≡ Some 93 → Ended r n
+  first_ended e end = subst (Ended r) (sym e) (record { step = λ F el. still (inner F) (sign 93) (λ L K e apt h. or_left end (shuns (eqb 93) _ (el.ends (onto (tail F) K)) 93 refl) h) })
 
-  no_entry : ahead (drop r.at (text r)) ≡ Some 93 → Step r r (inner F) (sign 93) []
-  no_entry n = still (inner F) (sign 93) (λ L K e apt h. or_left n (shuns (eqb 93) _ (el.ends (onto (tail F) K)) 93 refl) h)
+  pub next_comes : (n ≡ 0 → ⊥) → next_byte r ≡ Some 44 → Comes r n
+  next_comes some mark = subst (Comes r) (above some) (record { step = λ F el. still (tail F) (sign 44 then F then tail F) (λ L K e apt h. many_on mark (shuns (eqb 44) (onto (sign 93) K) refl 44 refl) h) })
 
-  pub first_none : {s : Scanner} → ahead (drop r.at (text r)) ≡ Some 93 → Passed r s 93 → Step r s (inner F) nothing (symbol 93 ∷ [])
-  first_none n p = step_on (no_entry n) (mark_last p)
+  pub next_ended : (n ≡ 0 → ⊥) → (next_byte r ≡ Some 44 → ⊥) → Ended r n
+  next_ended some none = subst (Ended r) (above some) (record { step = λ F el. still (tail F) (sign 93) (λ L K e apt h. many_off refl (shuns_mark none) h) })
 
-  pub first_lost : {f : Fault} → ahead (drop r.at (text r)) ≡ Some 93 → Missed r (sign 93) f → Lost r (inner F) f
-  first_lost n m = lost_after (no_entry n) (lost_by m)
+  -- the comma before an entry
+  pub no_comma : n ≡ 0 → Separated r r n
+  no_comma e = subst (Separated r r) (sym e) (record { step = λ K fits. still K K (λ L J e apt h. h) })
 
-  comma : ahead (drop r.at (text r)) ≡ Some 44 → Step r r (tail F) (sign 44 then F then tail F) []
-  comma n = still (tail F) (sign 44 then F then tail F) (λ L K e apt h. many_on n (shuns (eqb 44) (onto (sign 93) K) refl 44 refl) h)
+pub comma_or_not : (r s : Scanner) (n : ℕ) (q : Result (Unit {0}) Fault) → (n ≡ 0 → ⊥) → MatchResult q (λ _. Passed r s 44) (λ f. Missed r (sign 44) f) → MatchResult q (λ _. Separated r s n) (NotSeparated r n)
+comma_or_not r s n q some x =
+    MatchResult-weaker q x
+    (λ _ p. subst (Separated r s) (above some) (record { step = λ K fits. mark_step p K fits }))
+    (λ f m. subst (λ (k : ℕ). NotSeparated r k f) (above some) (record { lost = λ K. lost_first K m }))
 
-  pub next_some : {s : Scanner} → ahead (drop r.at (text r)) ≡ Some 44 → Passed r s 44 → Step r s (tail F) (F then tail F) (symbol 44 ∷ [])
-  next_some n p = step_on (comma n) (mark_step p (F then tail F) (λ K apt. el.clear (onto (tail F) K)))
+module _ {r s : Scanner} {n : ℕ} (F : Form) (el : Element F) (comes : Comes r n) where
+  pub going : Separated r s n → Step r s (rest n F) (F then tail F) (lead n)
+  going x = step_on (comes.step F el) (x.step (F then tail F) (λ K apt. el.clear (onto (tail F) K)))
 
-  pub next_lost : {f : Fault} → ahead (drop r.at (text r)) ≡ Some 44 → Missed r (sign 44) f → Lost r (tail F) f
-  next_lost n m = lost_after (comma n) (lost_first (F then tail F) m)
+module _ {r : Scanner} {n : ℕ} (F : Form) (el : Element F) where
+  pub comma_lost : {f : Fault} → Comes r n → NotSeparated r n f → Lost r (rest n F) f
+  comma_lost comes x = lost_after (comes.step F el) (x.lost (F then tail F))
 
-  no_comma : (ahead (drop r.at (text r)) ≡ Some 44 → ⊥) → Step r r (tail F) (sign 93) []
-  no_comma none = still (tail F) (sign 93) (λ L K e apt h. many_off refl (shuns_mark none) h)
+  pub unclosed : {f : Fault} → Ended r n → Missed r (sign 93) f → Lost r (rest n F) f
+  unclosed end x = lost_after (end.step F el) (lost_by x)
 
-  pub next_none : {s : Scanner} → (ahead (drop r.at (text r)) ≡ Some 44 → ⊥) → Passed r s 93 → Step r s (tail F) nothing (symbol 93 ∷ [])
-  next_none none p = step_on (no_comma none) (mark_last p)
-
-  pub end_lost : {f : Fault} → (ahead (drop r.at (text r)) ≡ Some 44 → ⊥) → Missed r (sign 93) f → Lost r (tail F) f
-  end_lost none m = lost_after (no_comma none) (lost_by m)
-
-pub going : (r s : Scanner) (n : ℕ) (b : Bool) → ((F : Form) → Element F → Goes r s (rest n F) F (lead n) b) → b ≡ true → (F : Form) → Element F → Step r s (rest n F) (F then tail F) (lead n)
-going r s n b h e F el = subst (Goes r s (rest n F) F (lead n)) e (h F el)
-
-pub ended : (r s : Scanner) (n : ℕ) (b : Bool) → ((F : Form) → Element F → Goes r s (rest n F) F (lead n) b) → b ≡ false → (F : Form) → Element F → Step r s (rest n F) nothing (symbol 93 ∷ [])
-ended r s n b h e F el = subst (Goes r s (rest n F) F (lead n)) e (h F el)
+  pub closed : {s : Scanner} → Ended r n → Passed r s 93 → Step r s (rest n F) nothing (symbol 93 ∷ [])
+  closed end p = step_on (end.step F el) (mark_last p)
 
 -- one more entry
 among-push : {A : Type 0} (f : A → List Token) (xs : List A) (x : A) → among f (xs ++ x ∷ []) ≡ among f xs ++ (symbol 44 ∷ f x)
@@ -120,3 +119,10 @@ list_lost F el p x = lost_after (mark_step p (inner F) (λ K apt. el.clear (onto
 module _ {A S : Type 0} {print : A → List Token} {F : Form} {r s : Scanner} {before after : S} where
   pub kept_as : {P : A → Type 0} {keep : A → S → S} (Q : A → Type 0) (keep' : A → S → S) → ((x : A) → P x → Q x) → ((x : A) (t : S) → keep x t ≡ keep' x t) → Kept P print keep F r s before after → Kept Q print keep' F r s before after
   kept_as Q keep' f g k = record { value = k.value; is = f k.value k.is; step = k.step; kept = k.kept ∙ g k.value before }
+
+-- an array of numbers, and an array of rows
+pub numbers_kept : {n : ℕ} {r s : Scanner} {before after : Filling} → Kept (Several Any n) (array single) (puts put) (listed whole) r s before after → NumbersKept n r s before after
+numbers_kept {n} k = kept_as (Long n) put_all (λ x h. h.0) (λ x t. refl) k
+
+pub rows_kept : {width n : ℕ} {r s : Scanner} {before after : Filling} → Kept (Several (Long width) n) (array row_tokens) (puts put_all) (listed (row width)) r s before after → RowsKept width n r s before after
+rows_kept {width} {n} k = kept_as (Rows width n) put_rows (λ x h. h) rows_are k

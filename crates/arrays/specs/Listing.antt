@@ -1,10 +1,10 @@
 -- Values and arrays of values that are read and kept. Assumes nothing.
-use Rattle.std.specs.Prelude.{◌≡◌, ℕ, zero, suc, ◌+◌, ◌-◌, ◌≤◌, Bool, true, false, List, [], ◌∷◌, length, ℤ, Result, MatchResult}
+use Rattle.std.specs.Prelude.{◌≡◌, ℕ, zero, suc, ◌+◌, ◌-◌, ◌≤◌, List, [], ◌∷◌, length, ℤ}
 use Rattle.std.specs.List.{AllByRecursion}
 use Rattle.faults.specs.declared.Fault.{Fault}
 use Rattle.forms.specs.Form.{Form, nothing, ◌then◌, Token, symbol}
-use Rattle.forms.specs.Array.{whole, tail, inner, listed, row, row_left, columns, parts, array, single, row_tokens}
-use Rattle.forms.specs.Progress.{Element}
+use Rattle.forms.specs.Array.{sign, whole, tail, inner, listed, row, columns, parts, array, single, row_tokens}
+use Rattle.forms.specs.Progress.{onto, BlankFree, Apt, Element}
 use Rattle.scanner.specs.Scanner.{text, Step, Lost}
 use Rattle.scanner.specs.declared.Scanner.{Scanner}
 use Rattle.arrays.specs.Sink.{Filling, put, puts, put_all, put_rows}
@@ -35,14 +35,28 @@ pub record Listing {A S : Type 0} (P : A → Type 0) (print : A → List Token) 
   pub inside : s.at ≤ length (text r)
   pub kept : after ≡ puts keep values before
 
--- the array goes on, and an entry comes next after the comma before it; or the array is at its end, and its bracket is read
-abbrev pub Goes : Scanner → Scanner → Form → Form → List Token → Bool → Type 0
-Goes r s A F t true = Step r s A (F then tail F) t
-Goes r s A F t false = Step r s A nothing (symbol 93 ∷ [])
+-- K, after a comma unless it comes first
+abbrev pub comma : ℕ → Form → Form
+comma zero K = K
+comma (suc n) K = sign 44 then K
 
--- what a scanner finds after so many entries of an array, whatever these are
-abbrev pub Another : Scanner → Scanner → ℕ → Result Bool Fault → Type 0
-Another r s n res = MatchResult res (λ more. (F : Form) → Element F → Goes r s (rest n F) F (lead n) more) (λ f. (F : Form) → Element F → Lost r (rest n F) f)
+-- what a scanner finds after n entries of an array, whatever these are: that another one comes, or that the array ends
+pub record Comes (r : Scanner) (n : ℕ) : Type 0 where
+  pub step : (F : Form) → Element F → Step r r (rest n F) (comma n (F then tail F)) []
+
+pub record Ended (r : Scanner) (n : ℕ) : Type 0 where
+  pub step : (F : Form) → Element F → Step r r (rest n F) (sign 93) []
+
+-- the comma before an entry, of which n came before, whatever begins with it; or that it is missing
+pub record Separated (r s : Scanner) (n : ℕ) : Type 0 where
+  pub step : (K : Form) → ((J : Form) → Apt J → BlankFree (onto K J)) → Step r s (comma n K) K (lead n)
+
+pub record NotSeparated (r : Scanner) (n : ℕ) (f : Fault) : Type 0 where
+  pub lost : (K : Form) → Lost r (comma n K) f
+
+-- so many values of which P holds
+abbrev pub Several : {A : Type 0} → (A → Type 0) → ℕ → List A → Type 0
+Several P n x = (length x ≡ n) × AllByRecursion P x
 
 abbrev pub Any : ℤ → Type 0
 Any z = Unit {0}
@@ -53,7 +67,7 @@ Long n x = length x ≡ n
 
 -- so many rows of n
 abbrev pub Rows : ℕ → ℕ → List (List ℤ) → Type 0
-Rows n count x = (length x ≡ count) × AllByRecursion (Long n) x
+Rows n = Several (Long n)
 
 -- a number, an array of so many numbers, a row of n numbers, an array of so many such rows
 abbrev pub NumberKept : Scanner → Scanner → Filling → Filling → Type 0
@@ -67,10 +81,6 @@ RowKept n = Kept (Long n) row_tokens put_all (row n)
 
 abbrev pub RowsKept : ℕ → ℕ → Scanner → Scanner → Filling → Filling → Type 0
 RowsKept n count = Kept (Rows n count) (array row_tokens) put_rows (listed (row n))
-
--- the comma before a number of a row that has i numbers, where m more come after that one
-abbrev pub Separated : Scanner → Scanner → ℕ → Result (Unit {0}) Fault → Type 0
-Separated r s i res = MatchResult res (λ _. (m : ℕ) → Step r s (columns i (suc m)) (whole then row_left m) (lead i)) (λ f. (m : ℕ) → Lost r (columns i (suc m)) f)
 
 -- the first i numbers of a row of n
 pub record RowSoFar (n i : ℕ) (r s : Scanner) (before after : Filling) : Type 0 where

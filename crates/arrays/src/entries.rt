@@ -1,89 +1,99 @@
-// Arrays of none or more entries: whether another entry comes, numbers, and arrays of numbers. After a refusal nothing is promised of
-// the scanner, which is not to be used again, nor of what the sink holds: it is still over the same lent list.
-ghost use Rattle.std.specs.Prelude.{◌≡◌, Some, MatchBool, MatchResult, ◌≢◌};
-ghost use Rattle.arrays.specs.Listing.{Another, NumberKept, NumbersKept};
-ghost use Rattle.arrays.specs.Sink.{filling};
-ghost use Rattle.forms.specs.Array.{whole, listed};
-ghost use Rattle.scanner.specs.Scanner.{Lost, next_byte};
+// Arrays of none or more entries, whatever an entry is. After a refusal nothing is promised of the scanner, which is not to be used
+// again, nor of what the lists hold: they are still the same lent lists.
+ghost use Rattle.std.specs.Prelude.{◌≡◌, ◌<◌, ◌≤◌, List, length, IfOk, MatchBool, MatchResult};
+ghost use Rattle.arrays.specs.Listing.{Comes, Ended, Separated, NotSeparated, Kept, Several};
+ghost use Rattle.arrays.specs.Sink.{puts};
+ghost use Rattle.forms.specs.Array.{array, listed};
+ghost use Rattle.forms.specs.Form.{Form, Token};
+ghost use Rattle.forms.specs.Progress.{Element};
+ghost use Rattle.scanner.specs.Scanner.{Lost, text};
+ghost use Rattle.scanner.specs.declared.Scanner.{Scanner as Reading};
 
-use crate::Sink;
 use faults::Fault;
 use scanner::Scanner;
 
-// Whether the end of an array comes next.
-fn at_end(scanner: &Scanner<'_>) -> bool
-    ensures { MatchBool result (next_byte scanner.now ≡ Some 93) (next_byte scanner.now ≢ Some 93) }
-{
-    scanner.sees(b']')
+// What stands in an array and is kept in lists of the type L.
+pub trait Entry<L> {
+    // What an entry says, the form that says it, and what is printed for it.
+    ghost Value: { Type 0 };
+
+    ghost is: { Self → Value → Type 0 };
+
+    ghost form: { Self → Form };
+
+    ghost print: { Value → List Token };
+
+    // What the lists hold, and what they hold with one entry more.
+    ghost Held: { Type 0 };
+
+    ghost held: { L → Held };
+
+    ghost with_one: { Value → Held → Held };
+
+    // Which lent lists they are.
+    ghost Lenders: { Type 0 };
+
+    ghost lenders: { L → Lenders };
+
+    // That one more entry can be kept where the scanner is.
+    ghost fits: { Reading → L → Type 0 };
+
+    // Reads an entry, and keeps it.
+    fn keep(&self, scanner: &mut Scanner<'_>, lists: &mut L) -> Result<(), Fault>
+        requires { fits scanner.old lists.old }
+        ensures lender { lenders lists.new ≡ lenders lists.old }
+        ensures room { IfOk result (λ _. fits scanner.new lists.new) }
+        ensures reads { MatchResult result (λ _. Kept (is self.now) print with_one (form self.now) scanner.old scanner.new (held lists.old) (held lists.new)) (λ f. Lost scanner.old (form self.now) f) };
+
+    // An entry is not empty, its form can be that of an entry, and what fits still fits when the scanner has read on.
+    ghost some: { (v : Value) → 0 < length (print v) };
+
+    ghost element: { (x : Self) → Element (form x) };
+
+    ghost fits_on: { (r s : Reading) (l : L) → text s ≡ text r → r.at ≤ s.at → fits r l → fits s l };
 }
 
-// Whether a comma comes next.
-fn at_comma(scanner: &Scanner<'_>) -> bool
-    ensures { MatchBool result (next_byte scanner.now ≡ Some 44) (next_byte scanner.now ≢ Some 44) }
+// Whether another entry of an array comes, after so many.
+#[tactic(auto, using(crate::proofs::Lists::first_comes, crate::proofs::Lists::first_ended, crate::proofs::Lists::next_comes, crate::proofs::Lists::next_ended))]
+fn another(scanner: &Scanner<'_>, count: usize) -> bool
+    ensures { MatchBool result (Comes scanner.now count) (Ended scanner.now count) }
 {
+    // stays: the first entry has no comma before it, here and in the next call.
+    if count == 0 {
+        return !scanner.sees(b']');
+    }
     scanner.sees(b',')
 }
 
-// Whether no entry came before.
-pub(crate) fn is_first(count: usize) -> bool
-    ensures { MatchBool result (count ≡ 0) (count ≢ 0) }
+// Reads the comma before an entry, unless none came before.
+#[tactic(auto, using(crate::proofs::Lists::no_comma, crate::proofs::Lists::comma_or_not))]
+pub(crate) fn separate(scanner: &mut Scanner<'_>, before: usize) -> Result<(), Fault>
+    ensures { MatchResult result (λ _. Separated scanner.old scanner.new before) (NotSeparated scanner.old before) }
 {
-    count == 0
-}
-
-// Whether an array that was just opened has an entry; reads its end if not.
-fn first(scanner: &mut Scanner<'_>) -> Result<bool, Fault>
-    ensures { Another scanner.old scanner.new 0 result }
-{
-    if !at_end(scanner) {
-        return Ok(true);
+    if before == 0 {
+        return Ok(());
     }
-    scanner.pass(b']')?;
-    Ok(false)
+    scanner.pass(b',')
 }
 
-// Whether an array goes on after an entry; reads the comma, or the end.
-fn next(scanner: &mut Scanner<'_>) -> Result<bool, Fault>
-    ensures { Another scanner.old scanner.new 1 result }
-{
-    if at_comma(scanner) {
-        scanner.pass(b',')?;
-        return Ok(true);
-    }
-    scanner.pass(b']')?;
-    Ok(false)
-}
-
-// Whether an array goes on after so many entries.
-pub fn another(scanner: &mut Scanner<'_>, count: usize) -> Result<bool, Fault>
-    ensures { Another scanner.old scanner.new count result }
-{
-    if is_first(count) {
-        return first(scanner);
-    }
-    next(scanner)
-}
-
-// Reads a number, and keeps it.
-pub fn keep_number(scanner: &mut Scanner<'_>, sink: &mut Sink<'_>) -> Result<(), Fault>
-    ensures lender { sink.new.places.ghost_name ≡ sink.old.places.ghost_name }
-    ensures reads { MatchResult result (λ _. NumberKept scanner.old scanner.new (filling sink.old) (filling sink.new)) (λ f. Lost scanner.old whole f) }
-{
-    let value = scanner.next_number()?;
-    sink.keep(value);
-    Ok(())
-}
-
-// Reads an array of numbers, keeps them, and answers how many they are.
-pub fn keep_numbers(scanner: &mut Scanner<'_>, sink: &mut Sink<'_>) -> Result<usize, Fault>
-    ensures lender { sink.new.places.ghost_name ≡ sink.old.places.ghost_name }
-    ensures reads { MatchResult result (λ n. NumbersKept n scanner.old scanner.new (filling sink.old) (filling sink.new)) (λ f. Lost scanner.old (listed whole) f) }
+// Reads an array of entries, keeps them, and answers how many they are.
+pub fn keep_list<L, E: Entry<L>>(
+    scanner: &mut Scanner<'_>,
+    entry: &E,
+    lists: &mut L,
+) -> Result<usize, Fault>
+    requires { E.fits scanner.old lists.old }
+    ensures lender { E.lenders lists.new ≡ E.lenders lists.old }
+    ensures reads { MatchResult result (λ n. Kept (Several (E.is entry.now) n) (array E.print) (puts E.with_one) (listed (E.form entry.now)) scanner.old scanner.new (E.held lists.old) (E.held lists.new)) (λ f. Lost scanner.old (listed (E.form entry.now)) f) }
 {
     scanner.pass(b'[')?;
+    // stays: how many entries came is what is answered, and it says whether a comma comes before the next.
     let mut count = 0;
-    while another(scanner, count)? {
-        keep_number(scanner, sink)?;
+    while another(scanner, count) {
+        separate(scanner, count)?;
+        entry.keep(scanner, lists)?;
         count += 1;
     }
+    scanner.pass(b']')?;
     Ok(count)
 }

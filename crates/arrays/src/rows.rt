@@ -1,53 +1,56 @@
-// Rows of so many numbers each, and arrays of rows: vertices, and the corners of cells. After a refusal the same holds as for arrays
-// of numbers.
-ghost use Rattle.std.specs.Prelude.{◌≡◌, MatchResult};
-ghost use Rattle.arrays.specs.Listing.{Separated, RowKept, RowsKept};
-ghost use Rattle.arrays.specs.Sink.{filling};
-ghost use Rattle.forms.specs.Array.{row, listed};
-ghost use Rattle.scanner.specs.Scanner.{Lost};
+// Rows of so many numbers each: vertices, and the corners of cells. After a refusal the same holds as for arrays.
+ghost use Rattle.std.specs.Prelude.{List, ℤ, refl};
+ghost use Rattle.std.proofs.Common.{rules};
+ghost use Rattle.std.specs.Borrow.{GName};
+ghost use Rattle.arrays.specs.Listing.{Long};
+ghost use Rattle.arrays.specs.Sink.{Filling, filling, put_all};
+ghost use Rattle.forms.specs.Array.{row, row_tokens};
 
-use crate::entries::is_first;
-use crate::{Sink, another, keep_number};
+use crate::entries::separate;
+use crate::{Entry, Number, Sink};
 use faults::Fault;
 use scanner::Scanner;
 
-// Reads the comma before a number of a row, unless it is the first.
-fn separate(scanner: &mut Scanner<'_>, index: usize) -> Result<(), Fault>
-    ensures { Separated scanner.old scanner.new index result }
-{
-    if is_first(index) {
-        return Ok(());
-    }
-    scanner.pass(b',')
+// An array of `width` numbers, kept in as many places.
+#[derive(Clone, Copy, Debug, PartialEq, Eq)]
+pub struct Row {
+    pub width: usize,
 }
 
-// Reads an array of `width` numbers, and keeps them.
-fn keep_row(scanner: &mut Scanner<'_>, width: usize, sink: &mut Sink<'_>) -> Result<(), Fault>
-    ensures lender { sink.new.places.ghost_name ≡ sink.old.places.ghost_name }
-    ensures reads { MatchResult result (λ _. RowKept width scanner.old scanner.new (filling sink.old) (filling sink.new)) (λ f. Lost scanner.old (row width) f) }
-{
-    scanner.pass(b'[')?;
-    for i in 0..width {
-        separate(scanner, i)?;
-        keep_number(scanner, sink)?;
-    }
-    scanner.pass(b']')
-}
+impl<'a> Entry<Sink<'a>> for Row {
+    ghost Value = { List ℤ };
 
-// Reads an array of rows of `width` numbers, keeps them, and answers how many rows they are.
-pub fn keep_rows(
-    scanner: &mut Scanner<'_>,
-    width: usize,
-    sink: &mut Sink<'_>,
-) -> Result<usize, Fault>
-    ensures lender { sink.new.places.ghost_name ≡ sink.old.places.ghost_name }
-    ensures reads { MatchResult result (λ n. RowsKept width n scanner.old scanner.new (filling sink.old) (filling sink.new)) (λ f. Lost scanner.old (listed (row width)) f) }
-{
-    scanner.pass(b'[')?;
-    let mut count = 0;
-    while another(scanner, count)? {
-        keep_row(scanner, width, sink)?;
-        count += 1;
+    ghost is = { λ e. Long e.width };
+
+    ghost form = { λ e. row e.width };
+
+    ghost print = { row_tokens };
+
+    ghost Held = { Filling };
+
+    ghost held = { filling };
+
+    ghost with_one = { put_all };
+
+    ghost Lenders = { GName };
+
+    ghost lenders = { λ l. l.places.ghost_name };
+
+    ghost fits = { λ _ _. Unit {0} };
+
+    ghost some = { λ _. Prim.search rules };
+
+    ghost element = { λ e. record { clear = λ K. refl; ends = λ K. refl } };
+
+    ghost fits_on = { λ _ _ _ _ _ x. x };
+
+    fn keep(&self, scanner: &mut Scanner<'_>, lists: &mut Sink<'a>) -> Result<(), Fault> {
+        scanner.pass(b'[')?;
+        // stays: the index says whether a comma comes first.
+        for i in 0..self.width {
+            separate(scanner, i)?;
+            Number.keep(scanner, lists)?;
+        }
+        scanner.pass(b']')
     }
-    Ok(count)
 }

@@ -1,35 +1,56 @@
 -- Boxes that are widened vertex by vertex. Assumes nothing.
-use Rattle.std.proofs.Common.{◌≡◌, ℕ, ◌+◌, ◌<◌, true, List, length, get_or, take, ℤ, pos, ◌≤ℤ◌, is_some, Some, None, Option, sym, ap, subst, arith, w32, SFits, to_z, of_z, MatchOption}
+use Rattle.std.proofs.Common.{◌≡◌, ℕ, ◌+◌, ◌-◌, ◌<◌, List, [], ◌∷◌, ◌++◌, length, get_or, take, drop, ℤ, pos, ◌≤ℤ◌, true, is_some, Some, None, Option, sym, ap, ◌∙◌, subst, arith, w32, SFits, to_z, of_z, MatchOption}
+use Rattle.std.specs.Int.{int_max, int_min}
 use Rattle.std.proofs.lemmas.Int.{ints, to_z-of_z}
-use Rattle.std.proofs.lemmas.List.{get_or-take, length-take, take-take}
 use Rattle.std.proofs.lemmas.Bool.{both_ways}
-use Rattle.std.proofs.ByRecursion.{All-get_or, All-more, All-take, All-weaker}
+use Rattle.std.proofs.lemmas.List.{get_or-take, take_more}
+use Rattle.std.proofs.lemmas.Grind.{get_or_after_one}
+use Rattle.std.proofs.ByRecursion.{All-append, All-get_or, All-weaker}
+use Rattle.std.specs.List.{AllByRecursion}
+use Rattle.kinds.specs.declared.places.Spot.{Spot}
+use Rattle.kinds.specs.Places.{spot}
 use Rattle.boxes.specs.declared.extent.Extent.{Extent}
-use Rattle.boxes.specs.declared.interval.Interval.{Interval}
-use Rattle.boxes.specs.declared.spot.Spot.{Spot}
-use Rattle.boxes.specs.Intervals.{Stretched}
-use Rattle.boxes.specs.Spots.{Contains, Inside, Surrounds, Widened, spot}
+use Rattle.boxes.specs.Spots.{Contains, Inside, Smallest, Spotted, Widened}
 
--- three intervals that are stretched make a box that is widened
-pub joined : (b : Extent) (p : Spot) (x y z : Interval) (r : Extent)
-    → Stretched (record { low = b.x0; high = b.x1 }) p.x x → Stretched (record { low = b.y0; high = b.y1 }) p.y y → Stretched (record { low = b.z0; high = b.z1 }) p.z z
-    → (r.x0 ≡ x.low) × (r.x1 ≡ x.high) × (r.y0 ≡ y.low) × (r.y1 ≡ y.high) × (r.z0 ≡ z.low) × (r.z1 ≡ z.high) → Widened b p r
-joined b p x y z r sx sy sz e = record {
-  holds_box = record { x = (low e.0 sx.low.0, high e.1 sx.high.0); y = (low e.2 sy.low.0, high e.3 sy.high.0); z = (low e.4 sz.low.0, high e.5 sz.high.0) };
-  holds_point = record { x = (low e.0 sx.low.1, high e.1 sx.high.1); y = (low e.2 sy.low.1, high e.3 sy.high.1); z = (low e.4 sz.low.1, high e.5 sz.high.1) };
-  least = λ d i k.
-      let lx = sx.least d.x0 d.x1 i.x.0 k.x.0 i.x.1 k.x.1 in
-      let ly = sy.least d.y0 d.y1 i.y.0 k.y.0 i.y.1 k.y.1 in
-      let lz = sz.least d.z0 d.z1 i.z.0 k.z.0 i.z.1 k.z.1 in
-      record { x = (high e.0 lx.0, low e.1 lx.1); y = (high e.2 ly.0, low e.3 ly.1); z = (high e.4 lz.0, low e.5 lz.1) };
+pub min_under : (a b r : ℤ) → r ≡ int_min a b → (r ≤ℤ a) × (r ≤ℤ b)
+min_under a b r e = (grind (arith, ints), grind (arith, ints))
+
+pub min_greatest : (a b r d : ℤ) → r ≡ int_min a b → d ≤ℤ a → d ≤ℤ b → d ≤ℤ r
+min_greatest a b r d e h k = grind (arith, ints)
+
+pub max_over : (a b r : ℤ) → r ≡ int_max a b → (a ≤ℤ r) × (b ≤ℤ r)
+max_over a b r e = (grind (arith, ints), grind (arith, ints))
+
+pub max_least : (a b r d : ℤ) → r ≡ int_max a b → a ≤ℤ d → b ≤ℤ d → r ≤ℤ d
+max_least a b r d e h k = grind (arith, ints)
+
+-- a box whose sides are stretched to a point is widened to it
+abbrev pub Reached : Extent → Spot → Extent → Type 0
+Reached b p r =
+    ((r.x.low ≡ int_min b.x.low p.x) × (r.x.high ≡ int_max b.x.high p.x))
+    × ((r.y.low ≡ int_min b.y.low p.y) × (r.y.high ≡ int_max b.y.high p.y))
+    × ((r.z.low ≡ int_min b.z.low p.z) × (r.z.high ≡ int_max b.z.high p.z))
+
+pub reached : (b : Extent) (p : Spot) (r : Extent) → Reached b p r → Widened b p r
+reached b p r e = record {
+  holds_box = record {
+    x = ((min_under _ _ _ e.0.0).0, (max_over _ _ _ e.0.1).0);
+    y = ((min_under _ _ _ e.1.0).0, (max_over _ _ _ e.1.1).0);
+    z = ((min_under _ _ _ e.2.0).0, (max_over _ _ _ e.2.1).0);
+  };
+  holds_point = record {
+    x = ((min_under _ _ _ e.0.0).1, (max_over _ _ _ e.0.1).1);
+    y = ((min_under _ _ _ e.1.0).1, (max_over _ _ _ e.1.1).1);
+    z = ((min_under _ _ _ e.2.0).1, (max_over _ _ _ e.2.1).1);
+  };
+  least = λ d i k. record {
+    x = (min_greatest _ _ _ _ e.0.0 i.x.0 k.x.0, max_least _ _ _ _ e.0.1 i.x.1 k.x.1);
+    y = (min_greatest _ _ _ _ e.1.0 i.y.0 k.y.0, max_least _ _ _ _ e.1.1 i.y.1 k.y.1);
+    z = (min_greatest _ _ _ _ e.2.0 i.z.0 k.z.0, max_least _ _ _ _ e.2.1 i.z.1 k.z.1);
+  };
 }
-  where
-    low : {a b c : ℤ} → a ≡ b → b ≤ℤ c → a ≤ℤ c
-    low {a} {b} {c} q h = subst (λ (w : ℤ). w ≤ℤ c) (sym q) h
 
-    high : {a b c : ℤ} → a ≡ b → c ≤ℤ b → c ≤ℤ a
-    high {a} {b} {c} q h = subst (λ (w : ℤ). c ≤ℤ w) (sym q) h
-
+-- a box that lies within another
 contains_wider : (b d : Extent) (p : Spot) → Inside b d → Contains b p → Contains d p
 contains_wider b d p i k = record {
   x = (more i.x.0 k.x.0, more k.x.1 i.x.1);
@@ -44,28 +65,44 @@ cases_wider : (o : Option Spot) (b d : Extent) → Inside b d → MatchOption o 
 cases_wider (Some p) b d i h = contains_wider b d p i h
 cases_wider None b d i h = h
 
+-- a number of the list that stands nowhere
+pub not_spotted : (vs zs : List ℤ) (i : ℕ) → i < length zs → spot vs (get_or zs i (pos 0)) ≡ None → Spotted vs zs → ⊥
+not_spotted vs zs i lt e s = both_ways (is_some (spot vs (get_or zs i (pos 0)))) (ap is_some e) (All-get_or (λ (z : ℤ). is_some (spot vs z) ≡ true) zs i (pos 0) lt s.all)
+
+-- the numbers of a list after the first, which are numbers of 32 bits
+pub read_rest : (zs : List ℤ) (i : ℕ) → i < length zs - 1 → SFits w32 (get_or (take (length zs - 1) (drop 1 zs)) i (pos 0))
+    → to_z w32 (of_z w32 (get_or (take (length zs - 1) (drop 1 zs)) i (pos 0))) ≡ get_or zs (i + 1) (pos 0)
+read_rest zs i lt fits =
+    to_z-of_z w32 (get_or (take (length zs - 1) (drop 1 zs)) i (pos 0)) fits
+    ∙ get_or-take (length zs - 1) (drop 1 zs) i (pos 0) lt ∙ get_or_after_one zs i (pos 0) ∙ ap (λ (n : ℕ). get_or zs n (pos 0)) (omega arith)
+
+-- the parts of a list
+all_parts : {X : Type 0} (P : X → Type 0) (xs ys : List X) → AllByRecursion P (xs ++ ys) → AllByRecursion P xs × AllByRecursion P ys
+all_parts P [] ys h = (tt, h)
+all_parts P (x ∷ xs) ys h = let rest = all_parts P xs ys h.1 in ((h.0, rest.0), rest.1)
+
 module _ (vs zs : List ℤ) (i : ℕ) (lt : i < length zs) (p : Spot) (here : spot vs (get_or zs i (pos 0)) ≡ Some p) where
-  -- one vertex more
-  pub surrounds_more : (b r : Extent) → Surrounds vs (take i zs) b → Widened b p r → Surrounds vs (take (i + 1) zs) r
-  surrounds_more b r s w =
-      All-more (λ z. MatchOption (spot vs z) ⊥ (Contains r)) zs i (pos 0) lt
-      (All-weaker (λ z. MatchOption (spot vs z) ⊥ (Contains b)) (λ z. MatchOption (spot vs z) ⊥ (Contains r)) (λ z h. cases_wider (spot vs z) b r w.holds_box h) (take i zs) s)
-      (subst (λ (o : Option Spot). MatchOption o ⊥ (Contains r)) (sym here) w.holds_point)
+  abbrev z : ℤ
+  z = get_or zs i (pos 0)
 
-  pub contains_here : (n : ℕ) (d : Extent) → i < n → Surrounds vs (take n zs) d → Contains d p
-  contains_here n d h s = subst (λ (o : Option Spot). MatchOption o ⊥ (Contains d)) here (subst (λ (z : ℤ). MatchOption (spot vs z) ⊥ (Contains d)) (get_or-take n zs i (pos 0) h) (All-get_or (λ z. MatchOption (spot vs z) ⊥ (Contains d)) (take n zs) i (pos 0) (omega (arith, length-take n zs)) s))
+  here_in : (d : Extent) → Contains d p → MatchOption (spot vs z) ⊥ (Contains d)
+  here_in d = subst (λ (o : Option Spot). MatchOption o ⊥ (Contains d)) (sym here)
 
-pub surrounds_less : (vs zs : List ℤ) (m n : ℕ) (d : Extent) → m < n → Surrounds vs (take n zs) d → Surrounds vs (take m zs) d
-surrounds_less vs zs m n d h s = subst (λ (xs : List ℤ). Surrounds vs xs d) (take-take m n zs (omega arith)) (All-take (λ z. MatchOption (spot vs z) ⊥ (Contains d)) m (take n zs) s)
+  out_of : (d : Extent) → MatchOption (spot vs z) ⊥ (Contains d) → Contains d p
+  out_of d = subst (λ (o : Option Spot). MatchOption o ⊥ (Contains d)) here
 
--- a number that stands nowhere
-pub nowhere : (vs : List ℤ) (z : ℤ) → spot vs z ≡ None → is_some (spot vs z) ≡ true → ⊥
-nowhere vs z e h = both_ways (is_some (spot vs z)) (ap is_some e) h
+  -- the smallest box around one vertex
+  pub smallest_one : (b : Extent) → Contains b p × ((d : Extent) → Contains d p → Inside b d) → Smallest vs (z ∷ []) b
+  smallest_one b h = record { around = (here_in b h.0, tt); least = λ d s. h.1 d (out_of d s.0) }
 
--- what goes through a register of 32 bits is as it was
-pub passed : (low high z : ℤ) (r : Interval) → SFits w32 low → SFits w32 high → SFits w32 z
-    → Stretched (record { low = to_z w32 (of_z w32 low); high = to_z w32 (of_z w32 high) }) (to_z w32 (of_z w32 z)) r → Stretched (record { low = low; high = high }) z r
-passed low high z r f g h s =
-    subst (λ (a : ℤ). Stretched (record { low = a; high = high }) z r) (to_z-of_z w32 low f)
-    (subst (λ (a : ℤ). Stretched (record { low = to_z w32 (of_z w32 low); high = a }) z r) (to_z-of_z w32 high g)
-    (subst (λ (a : ℤ). Stretched (record { low = to_z w32 (of_z w32 low); high = to_z w32 (of_z w32 high) }) a r) (to_z-of_z w32 z h) s))
+  -- and around one vertex more
+  pub smallest_more : (b r : Extent) → Smallest vs (take i zs) b → Widened b p r → Smallest vs (take (i + 1) zs) r
+  smallest_more b r s w = subst (λ (ys : List ℤ). Smallest vs ys r) (sym (take_more zs i (pos 0) lt)) (record {
+    around =
+        All-append (λ y. MatchOption (spot vs y) ⊥ (Contains r)) (take i zs) (z ∷ [])
+        (All-weaker (λ y. MatchOption (spot vs y) ⊥ (Contains b)) (λ y. MatchOption (spot vs y) ⊥ (Contains r)) (λ y h. cases_wider (spot vs y) b r w.holds_box h) (take i zs) s.around)
+        (here_in r w.holds_point, tt);
+    least = λ d h.
+        let parts = all_parts (λ y. MatchOption (spot vs y) ⊥ (Contains d)) (take i zs) (z ∷ []) h in
+        w.least d (s.least d parts.0) (out_of d parts.1.0);
+  })

@@ -1,25 +1,21 @@
--- Points in space at whole numbers, and the boxes around them. Assumes nothing.
-use Rattle.std.specs.Prelude.{◌≡◌, ◌+◌, ◌*◌, ◌<◌, true, cond, List, length, ℤ, pos, negsuc, ◌≤ℤ◌, is_some, Some, None, Option, MatchOption, nat_lt, slice_index_or}
+-- The boxes around points in space. Assumes nothing.
+use Rattle.std.specs.Prelude.{◌≡◌, ◌<◌, true, List, length, ℤ, ◌≤ℤ◌, is_some, MatchOption}
 use Rattle.std.specs.List.{AllByRecursion}
 use Rattle.boxes.specs.declared.extent.Extent.{Extent}
-use Rattle.boxes.specs.declared.spot.Spot.{Spot}
-
--- where the vertex with this number stands; a number that is no vertex of the table stands nowhere
-abbrev pub spot : List ℤ → ℤ → Option Spot
-spot vs (pos n) = cond (nat_lt (3 * n + 2) (length vs)) (Some (record { x = slice_index_or vs (3 * n) (pos 0); y = slice_index_or vs (3 * n + 1) (pos 0); z = slice_index_or vs (3 * n + 2) (pos 0) })) None
-spot vs (negsuc n) = None
+use Rattle.kinds.specs.declared.places.Spot.{Spot}
+use Rattle.kinds.specs.Places.{spot}
 
 -- the box has the point in it
 pub record Contains (b : Extent) (p : Spot) : Type 0 where
-  pub x : (b.x0 ≤ℤ p.x) × (p.x ≤ℤ b.x1)
-  pub y : (b.y0 ≤ℤ p.y) × (p.y ≤ℤ b.y1)
-  pub z : (b.z0 ≤ℤ p.z) × (p.z ≤ℤ b.z1)
+  pub x : (b.x.low ≤ℤ p.x) × (p.x ≤ℤ b.x.high)
+  pub y : (b.y.low ≤ℤ p.y) × (p.y ≤ℤ b.y.high)
+  pub z : (b.z.low ≤ℤ p.z) × (p.z ≤ℤ b.z.high)
 
 -- the first box lies within the second
 pub record Inside (b d : Extent) : Type 0 where
-  pub x : (d.x0 ≤ℤ b.x0) × (b.x1 ≤ℤ d.x1)
-  pub y : (d.y0 ≤ℤ b.y0) × (b.y1 ≤ℤ d.y1)
-  pub z : (d.z0 ≤ℤ b.z0) × (b.z1 ≤ℤ d.z1)
+  pub x : (d.x.low ≤ℤ b.x.low) × (b.x.high ≤ℤ d.x.high)
+  pub y : (d.y.low ≤ℤ b.y.low) × (b.y.high ≤ℤ d.y.high)
+  pub z : (d.z.low ≤ℤ b.z.low) × (b.z.high ≤ℤ d.z.high)
 
 -- the box has each of these vertices in it; so each number is a vertex
 abbrev pub Surrounds : List ℤ → List ℤ → Extent → Type 0

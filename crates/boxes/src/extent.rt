@@ -1,15 +1,37 @@
-// A box along the axes, from the least to the greatest x, y and z. Both ends belong to it, so it is never empty.
-ghost use Rattle.std.specs.Prelude.{◌≤ℤ◌};
+// A box along the axes: an interval of x, one of y and one of z.
+ghost use Rattle.boxes.specs.Spots.{Contains, Inside, Widened};
+ghost use Rattle.boxes.specs.declared.extent.Extent.{Extent};
 
-#[derive(Clone, Copy)]
+use crate::Interval;
+use kinds::Spot;
+
+#[derive(Clone, Copy, Debug, PartialEq, Eq)]
 pub struct Extent {
-    pub x0: i32,
-    pub x1: i32,
-    pub y0: i32,
-    pub y1: i32,
-    pub z0: i32,
-    pub z1: i32,
-    ghost wide: { x0 ≤ℤ x1 },
-    ghost deep: { y0 ≤ℤ y1 },
-    ghost high: { z0 ≤ℤ z1 },
+    pub x: Interval,
+    pub y: Interval,
+    pub z: Interval,
+}
+
+impl Extent {
+    // The box that has a point in it and nothing else.
+    pub(crate) fn at(p: Spot) -> Extent
+        ensures { Contains result p × ((d : Extent) → Contains d p → Inside result d) }
+    {
+        Extent {
+            x: Interval::at(p.x),
+            y: Interval::at(p.y),
+            z: Interval::at(p.z),
+        }
+    }
+
+    // The smallest box with this box and a point in it.
+    pub(crate) fn with(self, p: Spot) -> Extent
+        ensures { Widened self p result }
+    {
+        Extent {
+            x: self.x.with(p.x),
+            y: self.y.with(p.y),
+            z: self.z.with(p.z),
+        }
+    }
 }

@@ -2,7 +2,7 @@
 use crate::Extent;
 use kinds::ReplacementId;
 
-#[derive(Clone, Copy)]
+#[derive(Clone, Copy, Debug, PartialEq, Eq)]
 pub struct Facts {
     pub number: ReplacementId,
     pub error: u32,

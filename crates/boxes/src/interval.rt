@@ -1,31 +1,32 @@
-// From the least to the greatest number along one axis.
-ghost use Rattle.std.specs.Prelude.{◌≤ℤ◌};
-ghost use Rattle.boxes.specs.Intervals.{Stretched};
+// From the least to the greatest number along one axis. Both ends belong to it, so it is never empty.
+ghost use Rattle.std.specs.Int.{int_max, int_min};
+ghost use Rattle.std.specs.Prelude.{◌≡◌, ◌≤ℤ◌};
 
-#[derive(Clone, Copy)]
-pub(crate) struct Interval {
-    pub(crate) low: i32,
-    pub(crate) high: i32,
+#[derive(Clone, Copy, Debug, PartialEq, Eq)]
+pub struct Interval {
+    pub low: i32,
+    pub high: i32,
+    ghost ordered: { low ≤ℤ high },
 }
 
 impl Interval {
-    // Stretched as far as needed to have a number in it.
-    pub(crate) fn with(self, at: i32) -> Interval
-        requires { self.low ≤ℤ self.high }
-        ensures { Stretched self at result }
+    // The interval that has one number in it and nothing else.
+    pub(crate) fn at(number: i32) -> Interval
+        ensures { (result.low ≡ number) × (result.high ≡ number) }
     {
-        if at < self.low {
-            return Interval {
-                low: at,
-                high: self.high,
-            };
+        Interval {
+            low: number,
+            high: number,
         }
-        if self.high < at {
-            return Interval {
-                low: self.low,
-                high: at,
-            };
+    }
+
+    // Stretched as far as needed to have a number in it.
+    pub(crate) fn with(self, number: i32) -> Interval
+        ensures { (result.low ≡ int_min self.low number) × (result.high ≡ int_max self.high number) }
+    {
+        Interval {
+            low: self.low.min(number),
+            high: self.high.max(number),
         }
-        self
     }
 }

@@ -5,9 +5,9 @@ mod around;
 mod extent;
 mod facts;
 mod interval;
-mod spot;
+mod numbered;
 
 pub use around::box_around;
 pub use extent::Extent;
 pub use facts::Facts;
-pub use spot::Spot;
+pub use interval::Interval;

@@ -5,8 +5,8 @@
 
 #[cfg(test)]
 mod tests {
-    use boxes::Facts;
-    use faults::Fault;
+    use boxes::{Extent, Facts, Interval};
+    use faults::Refusal;
     use hierarchy::{Workspace, accept};
     use kinds::{CellId, ReplacementId, Segment, Triangle};
     use owners::Part;
@@ -39,42 +39,6 @@ mod tests {
         }
     }
 
-    // Number and place of a refusal; 0 and 0 where there is none.
-    fn told(refused: Option<Fault>) -> (u32, usize) {
-        match refused {
-            Some(fault) => (fault.refusal.number(), fault.place),
-            None => (0, 0),
-        }
-    }
-
-    fn number_of(owner: Option<ReplacementId>) -> u32 {
-        match owner {
-            Some(n) => n.0,
-            None => 0,
-        }
-    }
-
-    fn ranges_of(part: Option<Part>) -> [u32; 5] {
-        match part {
-            Some(part) => [part.error, part.list, part.takes, part.first, part.makes],
-            None => [0; 5],
-        }
-    }
-
-    fn facts_of(facts: Option<Facts>) -> (u32, u32, [i32; 6]) {
-        match facts {
-            Some(facts) => {
-                let b = facts.around;
-                (
-                    facts.number.0,
-                    facts.error,
-                    [b.x0, b.x1, b.y0, b.y1, b.z0, b.z1],
-                )
-            }
-            None => (0, 0, [0; 6]),
-        }
-    }
-
     #[test]
     fn square_is_accepted(rt: HostRuntime) -> Result<(), AllocError> {
         let work = Workspace::new(rt.alloc(), 48)?;
@@ -83,32 +47,77 @@ mod tests {
             Ok(h) => {
                 assert_eq!(rt; (h.vertices(), h.cells(), h.replacements()), (8, 16, 4));
                 for (cell, maker, taker) in [
-                    (0, 0, 1),
-                    (1, 0, 1),
-                    (2, 1, 2),
-                    (4, 1, 0),
-                    (7, 2, 4),
-                    (11, 3, 4),
-                    (15, 4, 0),
-                    (16, 0, 0),
+                    (0, None, Some(1)),
+                    (1, None, Some(1)),
+                    (2, Some(1), Some(2)),
+                    (4, Some(1), None),
+                    (7, Some(2), Some(4)),
+                    (11, Some(3), Some(4)),
+                    (15, Some(4), None),
+                    (16, None, None),
                 ] {
-                    assert_eq!(rt; number_of(h.maker(CellId(cell))), maker, "maker of {cell}");
-                    assert_eq!(rt; number_of(h.taker(CellId(cell))), taker, "taker of {cell}");
+                    assert_eq!(rt;
+                        h.maker(CellId(cell)),
+                        maker.map(ReplacementId),
+                        "maker of {cell}"
+                    );
+                    assert_eq!(rt;
+                        h.taker(CellId(cell)),
+                        taker.map(ReplacementId),
+                        "taker of {cell}"
+                    );
                 }
-                assert_eq!(rt; ranges_of(h.ranges(ReplacementId(1))), [60, 0, 2, 2, 4]);
-                assert_eq!(rt; ranges_of(h.ranges(ReplacementId(4))), [10, 4, 2, 12, 4]);
-                assert_eq!(rt; ranges_of(h.ranges(ReplacementId(5))), [0; 5]);
                 assert_eq!(rt;
-                    facts_of(h.facts(ReplacementId(2))),
-                    (2, 20, [0, 400, 0, 200, 0, 60])
+                    h.ranges(ReplacementId(1)),
+                    Some(Part {
+                        error: 60,
+                        list: 0,
+                        takes: 2,
+                        first: 2,
+                        makes: 4,
+                    })
                 );
                 assert_eq!(rt;
-                    facts_of(h.facts(ReplacementId(4))),
-                    (4, 10, [200, 400, 0, 200, 0, 60])
+                    h.ranges(ReplacementId(4)),
+                    Some(Part {
+                        error: 10,
+                        list: 4,
+                        takes: 2,
+                        first: 12,
+                        makes: 4,
+                    })
                 );
-                assert_eq!(rt; facts_of(h.facts(ReplacementId(0))), (0, 0, [0; 6]));
+                assert_eq!(rt; h.ranges(ReplacementId(5)), None);
+                assert_eq!(rt;
+                    h.facts(ReplacementId(2)),
+                    Some(Facts {
+                        number: ReplacementId(2),
+                        error: 20,
+                        around: Extent {
+                            x: Interval { low: 0, high: 400 },
+                            y: Interval { low: 0, high: 200 },
+                            z: Interval { low: 0, high: 60 },
+                        },
+                    })
+                );
+                assert_eq!(rt;
+                    h.facts(ReplacementId(4)),
+                    Some(Facts {
+                        number: ReplacementId(4),
+                        error: 10,
+                        around: Extent {
+                            x: Interval {
+                                low: 200,
+                                high: 400
+                            },
+                            y: Interval { low: 0, high: 200 },
+                            z: Interval { low: 0, high: 60 },
+                        },
+                    })
+                );
+                assert_eq!(rt; h.facts(ReplacementId(0)), None);
             }
-            Err(fault) => assert_eq!(rt; (fault.refusal.number(), fault.place), (0, 0)),
+            Err(fault) => panic!(rt; "refused as {fault:?}"),
         }
         Ok(())
     }
@@ -118,19 +127,16 @@ mod tests {
         // no room for the last corner; cell 2 taken by 2 and by 3; 2 takes a cell whose rim is another; 4 takes a cell that it makes
         let tight = Workspace::new(rt.alloc(), 47)?;
         assert_eq!(rt;
-            told(accept::<Triangle>(square(&TAKEN), tight).err()),
-            (3, 1)
+            accept::<Triangle>(square(&TAKEN), tight).err(),
+            Some(Refusal::CountOffLimits.at(1))
         );
-        for (taken, number, place) in [
-            ([0, 1, 2, 2, 7, 11], 10, 3),
-            ([0, 1, 4, 3, 7, 11], 11, 2),
-            ([0, 1, 2, 3, 7, 12], 9, 4),
+        for (taken, fault) in [
+            ([0, 1, 2, 2, 7, 11], Refusal::TakesTwice.at(3)),
+            ([0, 1, 4, 3, 7, 11], Refusal::RimBroken.at(2)),
+            ([0, 1, 2, 3, 7, 12], Refusal::TakesNoEarlierCell.at(4)),
         ] {
             let work = Workspace::new(rt.alloc(), 48)?;
-            assert_eq!(rt;
-                told(accept::<Triangle>(square(&taken), work).err()),
-                (number, place)
-            );
+            assert_eq!(rt; accept::<Triangle>(square(&taken), work).err(), Some(fault));
         }
         Ok(())
     }
@@ -150,11 +156,19 @@ mod tests {
             Ok(h) => {
                 assert_eq!(rt; (h.vertices(), h.cells(), h.replacements()), (3, 3, 1));
                 assert_eq!(rt;
-                    facts_of(h.facts(ReplacementId(1))),
-                    (1, 3, [0, 10, 0, 0, 0, 3])
+                    h.facts(ReplacementId(1)),
+                    Some(Facts {
+                        number: ReplacementId(1),
+                        error: 3,
+                        around: Extent {
+                            x: Interval { low: 0, high: 10 },
+                            y: Interval { low: 0, high: 0 },
+                            z: Interval { low: 0, high: 3 },
+                        },
+                    })
                 );
             }
-            Err(fault) => assert_eq!(rt; (fault.refusal.number(), fault.place), (0, 0)),
+            Err(fault) => panic!(rt; "refused as {fault:?}"),
         }
         Ok(())
     }

@@ -8,7 +8,7 @@
 ghost use Rattle.std.specs.Prelude.{◌≡◌};
 ghost use Rattle.faults.specs.Number.{number_of};
 
-#[derive(Clone, Copy)]
+#[derive(Clone, Copy, Debug, PartialEq, Eq)]
 pub enum Refusal {
     // A line is not of its form.
     NotOfForm = 1,
@@ -49,17 +49,30 @@ pub enum Refusal {
 }
 
 // A refusal, and the place where it was met.
-#[derive(Clone, Copy)]
+#[derive(Clone, Copy, Debug, PartialEq, Eq)]
 pub struct Fault {
     pub refusal: Refusal,
     pub place: usize,
 }
 
 impl Refusal {
-    // The number by which the refusal is known outside.
-    pub fn number(self) -> u32
-        ensures { result ≡ number_of self }
+    // The fault of this refusal at a place.
+    pub fn at(self, place: usize) -> Fault
+        ensures refusal { result.refusal ≡ self }
+        ensures place { result.place ≡ place }
     {
-        self as u32
+        Fault {
+            refusal: self,
+            place,
+        }
+    }
+}
+
+// The number by which the refusal is known outside.
+impl From<Refusal> for u32 {
+    ghost from_gives = { λ r n. n ≡ number_of r };
+
+    fn from(refusal: Refusal) -> u32 {
+        refusal as u32
     }
 }

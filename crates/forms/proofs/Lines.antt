@@ -8,9 +8,6 @@ use Rattle.forms.specs.Line.{token, Says, TooFar, Misread}
 pub same_fault : (f g : Fault) → f.refusal ≡ g.refusal → f.place ≡ g.place → f ≡ g
 same_fault f g p q = λ i. record { refusal = p i; place = q i }
 
-clash : (p : ℕ) → Some p ≡ None → ⊥
-clash p h = let z : ◌≡◌ {A = ℕ} 0 1 = cc in omega arith
-
 module _ {L : Form} {bs : List ℕ} where
   pub says_once : {t u : List Token} → Says L bs t → Says L bs u → t ≡ u
   says_once x y = sym x.says ∙ ap (map token) (y.denotes.only x.items x.denotes.line) ∙ y.says
@@ -22,7 +19,7 @@ module _ {L : Form} {bs : List ℕ} where
       (λ o. omega (arith, o.long, x.short))
       (⊎_elim
       (λ m. m.wrong.refused x.items x.denotes.line)
-      (λ r. clash f.place (sym r.far ∙ ap first_far (x.denotes.only r.items r.denotes.line) ∙ x.near)))
+      (λ r. let none : Some f.place ≡ None = sym r.far ∙ ap first_far (x.denotes.only r.items r.denotes.line) ∙ x.near in cc))
 
   one_place : (p q : ℕ) → Wrong L bs p → Wrong L bs q → p ≡ q
   one_place p q x y = omega (arith, y.longest p x.within x.viable, x.longest q y.within y.viable)

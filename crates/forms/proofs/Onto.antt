@@ -39,7 +39,7 @@ first_digit (b ∷ bs) v p = (b, ⊎_elim (λ z. omega arith) (λ m. omega arith
 
 -- none of these fits p
 cond-false : (b c : Bool) → cond b false c ≡ true → (b ≡ false) × (c ≡ true)
-cond-false true c h = let z : ◌≡◌ {A = ℕ} 0 1 = cc in absurd (omega arith)
+cond-false true c h = cc
 cond-false false c h = (refl, h)
 
 none-append : (p : ℕ → Bool) (a b : List ℕ) → none p (a ++ b) ≡ true → (none p a ≡ true) × (none p b ≡ true)
@@ -112,12 +112,10 @@ shuns p F h b is =
           let both : Some y.0 ≡ Some b = sym y.1 ∙ a in
           let same : y.0 ≡ b = cc in
           let clash : true ≡ false = sym is ∙ ap p (sym same) ∙ y.2 in
-          let z : ◌≡◌ {A = ℕ} 0 1 = cc in
-          omega arith)
+          cc)
           (λ y.
           let both : None ≡ Some b = ap ahead (sym y.1) ∙ a in
-          let z : ◌≡◌ {A = ℕ} 0 1 = cc in
-          omega arith)
+          cc)
           (opens p F (at i v o) (at x.0 [] []) x.1 h);
     }
 

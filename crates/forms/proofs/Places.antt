@@ -86,7 +86,7 @@ far_here n p q (figure z) next le later h = go (beyond z) h
     go false e = later e
 
 far_in : (n p : ℕ) (o : List Item) → Before n o → first_far o ≡ Some p → p ≤ n
-far_in n p [] b e = let z : ◌≡◌ {A = ℕ} 0 1 = cc in absurd (omega arith)
+far_in n p [] b e = cc
 far_in n p (x ∷ o) b e = far_here n p x.place x.token (first_far o) b.0 (λ h. far_in n p o b.1 h) e
 
 -- the place of a refusal that a line meets

@@ -15,7 +15,7 @@ single_one : (x y : ℤ) (u v : List Token) → figure x ∷ u ≡ figure y ∷ 
 single_one x y u v h = (cc, cc)
 
 single_opens : (x : ℤ) (u v : List Token) → figure x ∷ u ≡ symbol 93 ∷ v → ⊥
-single_opens x u v h = let z : ◌≡◌ {A = ℕ} 0 1 = cc in omega arith
+single_opens x u v h = cc
 
 pub single_sharp : Sharp single
 single_sharp = record { one = single_one; opens = single_opens }

@@ -35,7 +35,7 @@ seen_near p (symbol b) q h = (refl, h)
 seen_near p (figure z) q h = go (beyond z) refl
   where
     go : (b : Bool) → beyond z ≡ b → (seen (figure z) ≡ figure z) × (q ≡ None)
-    go true e = let y : Some p ≡ None = ap (λ (k : Bool). earlier (cond k (Some p) None) q) (sym e) ∙ h in let w : ◌≡◌ {A = ℕ} 0 1 = cc in absurd (omega arith)
+    go true e = let y : Some p ≡ None = ap (λ (k : Bool). earlier (cond k (Some p) None) q) (sym e) ∙ h in cc
     go false e = (ap figure (clip_near z e), ap (λ (k : Bool). earlier (cond k (Some p) None) q) (sym e) ∙ h)
 
 -- of a line whose numbers are in range everything is kept

@@ -53,14 +53,6 @@ module _ {L : Form} {bs : List ℕ} {i : ℕ} {e : List Item} {F : Form} where
         complete = λ v o a x. let r = h.complete v o a x in (r.0, r.1, down v r.0 a r.2);
       }
 
-pub ahead_some : (v : List ℕ) (b : ℕ) → ahead v ≡ Some b → (w : List ℕ) × (v ≡ b ∷ w)
-ahead_some [] b h = let z : ◌≡◌ {A = ℕ} 0 1 = cc in absurd (omega arith)
-ahead_some (x ∷ w) b h = (w, let y : x ≡ b = cc in ap (λ (k : ℕ). k ∷ w) y)
-
-pub ahead_none : (v : List ℕ) → ahead v ≡ None → v ≡ []
-ahead_none [] h = refl
-ahead_none (x ∷ w) h = let z : ◌≡◌ {A = ℕ} 0 1 = cc in absurd (omega arith)
-
 pub byte_in : (b : ℕ) (K : Form) (i : ℕ) (v : List ℕ) (o : List Item) → Ends K (i + 1) v o → Ends (byte b then K) i (b ∷ v) o
 byte_in b K i v o x = (x.0, (at (i + 1) v o, (refl, refl), x.1))
 
@@ -77,8 +69,7 @@ byte_out b c K i v o x =
 pub byte_end : (b : ℕ) (K : Form) (i : ℕ) (o : List Item) → Ends (byte b then K) i [] o → ⊥
 byte_end b K i o x =
     let texts : [] ≡ b ∷ x.1.0.text = ap (λ (s : Point). s.text) x.1.1.0 in
-    let z : ◌≡◌ {A = ℕ} 0 1 = cc in
-    omega arith
+    cc
 
 pub mark_out : (b c : ℕ) (K : Form) (i : ℕ) (v : List ℕ) (o : List Item) → Ends (mark b then K) i (c ∷ v) o → (c ≡ b) × ((p : List Item) × (o ≡ item i (symbol b) ∷ p) × Ends K (i + 1) v p)
 mark_out b c K i v o x =
@@ -93,8 +84,7 @@ mark_out b c K i v o x =
 pub mark_end : (b : ℕ) (K : Form) (i : ℕ) (o : List Item) → Ends (mark b then K) i [] o → ⊥
 mark_end b K i o x =
     let texts : [] ≡ b ∷ x.1.0.text = ap (λ (s : Point). s.text) x.1.1.0 in
-    let z : ◌≡◌ {A = ℕ} 0 1 = cc in
-    omega arith
+    cc
 
 pub ahead_at : (bs : List ℕ) (i : ℕ) → i < length bs → Some (get_or bs i 0) ≡ ahead (drop i bs)
 ahead_at [] i h = absurd (omega arith)
@@ -114,8 +104,8 @@ pub record Here (bs : List ℕ) (i b : ℕ) : Type 0 where
   pub front : (v : List ℕ) → take (i + 1) bs ++ v ≡ take i bs ++ (b ∷ v)
 
 here_suc : (bs : List ℕ) (i b : ℕ) → ahead (drop i bs) ≡ Some b → (i < length bs) × (drop i bs ≡ b ∷ drop (suc i) bs) × ((v : List ℕ) → take (suc i) bs ++ v ≡ take i bs ++ (b ∷ v))
-here_suc [] zero b h = let z : ◌≡◌ {A = ℕ} 0 1 = cc in absurd (omega arith)
-here_suc [] (suc i) b h = let z : ◌≡◌ {A = ℕ} 0 1 = cc in absurd (omega arith)
+here_suc [] zero b h = cc
+here_suc [] (suc i) b h = cc
 here_suc (x ∷ bs) zero b h = let y : x ≡ b = cc in (omega arith, ap (λ (k : ℕ). k ∷ bs) y, λ v. ap (λ (k : ℕ). k ∷ v) y)
 here_suc (x ∷ bs) (suc i) b h =
     let r = here_suc bs i b h in

@@ -1,46 +1,49 @@
 -- The tables fix what is worked out from them. Assumes nothing.
-use Rattle.std.proofs.Common.{◌≡◌, ℕ, suc, ◌+◌, ◌-◌, ◌<◌, List, [], ◌∷◌, length, get_or, ℤ, ◌≤ℤ◌, Some, Ok, Err, vec_items, Option, sym, refl, ap, ◌∙◌, subst, ⊎_elim, arith, MatchOption}
-use Rattle.std.proofs.lemmas.List.{ext_get_or}
+use Rattle.std.proofs.Common.{◌≡◌, ℕ, suc, ◌+◌, ◌-◌, ◌<◌, List, [], ◌∷◌, map, length, get_or, ℤ, ◌≤ℤ◌, Some, None, Ok, Err, vec_items, Option, sym, refl, ap, ◌∙◌, subst, arith, MatchOption}
+use Rattle.std.proofs.lemmas.List.{ext_get_or, length-map}
 use Rattle.std.proofs.lemmas.Int.{ints}
-use Rattle.std.proofs.lemmas.Bool.{cases_eq, eqb-true, eq-eqb}
+use Rattle.std.proofs.lemmas.Bool.{eqb-true, eq-eqb, false≢true}
 use Rattle.std.specs.List.{AllZip, slice_get}
 use Rattle.boxes.specs.declared.extent.Extent.{Extent}
 use Rattle.boxes.specs.Spots.{Inside}
+use Rattle.kinds.specs.declared.numbers.ReplacementId.{ReplacementId}
 use Rattle.kinds.specs.Shapes.{Shape}
-use Rattle.owners.specs.Owners.{Makers, Takers}
-use Rattle.owners.proofs.Ties.{is_numbered}
+use Rattle.owners.specs.declared.owners.Owners.{Owners}
+use Rattle.owners.specs.Owners.{is_replacement, Makers, makers_in, Takers, takers_in}
+use Rattle.rules.proofs.Cells.{replacement_tells}
 use Rattle.rules.specs.Hierarchies.{hierarchy_rows}
 use Rattle.tables.specs.Tables.{Tables}
 use Rattle.tables.proofs.Rows.{lawful_or_refused, refused_once}
 use Rattle.kinds.specs.declared.kind.Kind.{Ghosts}
 use Rattle.hierarchy.specs.declared.hierarchy.Hierarchy.{Hierarchy}
 use Rattle.hierarchy.specs.Accepted.{Alike, Carries, CheckedOnce, SameSides, places_for}
-use Rattle.hierarchy.specs.Derived.{BoxOf, Boxes}
+use Rattle.hierarchy.specs.Derived.{BoxOf, Boxes, boxes_in}
 use Rattle.hierarchy.proofs.Joining.{placed_lawful}
 
-module _ (t : Tables) where
-  same_makers : (ms ns : List ℕ) → length ms ≡ length ns → Makers t ms → Makers t ns → ms ≡ ns
-  same_makers ms ns long x y = ext_get_or 0 ms ns long (λ c l.
-      let l' : c < length ns = omega arith in
-      ⊎_elim
-      (λ z. z ∙ sym (eqb-true (get_or ns c 0) 0 (sym (y.base c l') ∙ x.base c l ∙ eq-eqb (get_or ms c 0) 0 z)))
-      (λ z.
-      let real = is_numbered t (get_or ms c 0) (omega (arith, z)) (x.known c l) in
-      sym (eqb-true (get_or ns c 0) (get_or ms c 0) (sym (y.made (get_or ms c 0) c l' real) ∙ x.made (get_or ms c 0) c l real ∙ eq-eqb (get_or ms c 0) (get_or ms c 0) refl)))
-      (cases_eq (get_or ms c 0) 0))
+-- the numbers of which an owner is tell who it is
+same_owner : (a b : Option ReplacementId) → ((n : ℕ) → is_replacement n a ≡ is_replacement n b) → a ≡ b
+same_owner None None h = refl
+same_owner None (Some n) h = absurd (false≢true (h n.0 ∙ eq-eqb n.0 n.0 refl))
+same_owner (Some m) None h = absurd (false≢true (sym (h m.0) ∙ eq-eqb m.0 m.0 refl))
+same_owner (Some m) (Some n) h = let e : m.0 ≡ n.0 = sym (eqb-true n.0 m.0 (sym (h m.0) ∙ eq-eqb m.0 m.0 refl)) in λ j. Some (record { 0 = e j })
 
-  same_taker : (ts us : List ℕ) (c : ℕ) → c < length ts → c < length us → Takers t ts → Takers t us → (get_or ts c 0 ≡ 0 → ⊥) → get_or us c 0 ≡ get_or ts c 0
-  same_taker ts us c l l' x y z =
-      let real = is_numbered t (get_or ts c 0) (omega (arith, z)) (x.known c l) in
-      eqb-true (get_or us c 0) (get_or ts c 0) (sym (y.taken (get_or ts c 0) c l' real) ∙ x.taken (get_or ts c 0) c l real ∙ eq-eqb (get_or ts c 0) (get_or ts c 0) refl)
+same_makers : (t : Tables) (ms ns : List (Option ReplacementId)) → length ms ≡ length ns → Makers t ms → Makers t ns → ms ≡ ns
+same_makers t ms ns long x y = ext_get_or None ms ns long (λ c l. same_owner (get_or ms c None) (get_or ns c None) (λ n. sym (x.made n c l) ∙ y.made n c (omega arith)))
 
-  same_takers : (ts us : List ℕ) → length ts ≡ length us → Takers t ts → Takers t us → ts ≡ us
-  same_takers ts us long x y = ext_get_or 0 ts us long (λ c l.
-      let l' : c < length us = omega arith in
-      ⊎_elim
-      (λ z. ⊎_elim (λ w. z ∙ sym w) (λ w. same_taker us ts c l' l y x w) (cases_eq (get_or us c 0) 0))
-      (λ z. sym (same_taker ts us c l l' x y z))
-      (cases_eq (get_or ts c 0) 0))
+same_takers : (t : Tables) (ts us : List (Option ReplacementId)) → length ts ≡ length us → Takers t ts → Takers t us → ts ≡ us
+same_takers t ts us long x y = ext_get_or None ts us long (λ c l. same_owner (get_or ts c None) (get_or us c None) (λ n. sym (x.taken n c l) ∙ y.taken n c (omega arith)))
+
+same_owners : (os ps : List Owners) → makers_in os ≡ makers_in ps → takers_in os ≡ takers_in ps → os ≡ ps
+same_owners [] [] m t = refl
+same_owners [] (p ∷ ps) m t = cc
+same_owners (o ∷ os) [] m t = cc
+same_owners (o ∷ os) (p ∷ ps) m t =
+    let maker : o.maker ≡ p.maker = cc in
+    let taker : o.taker ≡ p.taker = cc in
+    let makers : makers_in os ≡ makers_in ps = cc in
+    let takers : takers_in os ≡ takers_in ps = cc in
+    let rest : os ≡ ps = same_owners os ps makers takers in
+    λ j. record { maker = maker j; taker = taker j } ∷ rest j
 
 both_ways : (a b : ℤ) → a ≤ℤ b → b ≤ℤ a → a ≡ b
 both_ways a b h k = omega (arith, ints)
@@ -62,22 +65,22 @@ each_place (b ∷ bs) (d ∷ ds) long h = (h 0 b d (omega arith) refl refl, each
 same_boxes : (k : ℕ) (t : Tables) (bs ds : List Extent) → Boxes k t bs → Boxes k t ds → AllZip SameSides bs ds
 same_boxes k t bs ds x y = each_place bs ds (x.long ∙ sym y.long) (λ i b d l e f.
     let n : i + 1 - 1 ≡ i = omega arith in
-    let real = is_numbered t (i + 1) (omega arith) (omega (arith, x.long)) in
+    let real = (replacement_tells t (i + 1)).1 (omega arith, omega (arith, x.long)) in
     let p : BoxOf k t (i + 1) b = subst (λ (o : Option Extent). MatchOption o ⊥ (BoxOf k t (i + 1))) (ap (slice_get bs) n ∙ e) (x.each (i + 1) real) in
     let q : BoxOf k t (i + 1) d = subst (λ (o : Option Extent). MatchOption o ⊥ (BoxOf k t (i + 1))) (ap (slice_get ds) n ∙ f) (y.each (i + 1) real) in
     same_sides b d (p.least d q.around) (q.least b p.around))
 
 carried_once : {K F P : Type 0} {m : Ghosts K F P} (k : ℕ) (t : Tables) (g h : Hierarchy K F P m) → Carries k t g → Carries k t h → Alike g h
-carried_once k t g h x y = record {
-  tables = x.tables ∙ sym y.tables;
-  width = x.width ∙ sym y.width;
-  cells = x.cells ∙ sym y.cells;
-  replacements = x.replacements ∙ sym y.replacements;
-  ranges = x.ranges ∙ sym y.ranges;
-  boxes = same_boxes k t (vec_items g.boxes) (vec_items h.boxes) x.boxes y.boxes;
-  makers = same_makers t (vec_items g.makers) (vec_items h.makers) (x.makers_long ∙ sym y.makers_long) x.makers y.makers;
-  takers = same_takers t (vec_items g.takers) (vec_items h.takers) (x.takers_long ∙ sym y.takers_long) x.takers y.takers;
-}
+carried_once k t g h x y =
+    let os : List Owners = vec_items g.owners in
+    let ps : List Owners = vec_items h.owners in
+    let long : (f : Owners → Option ReplacementId) → length (map f os) ≡ length (map f ps) = λ f. omega (arith, length-map os f, length-map ps f, x.cells, y.cells) in
+    record {
+      tables = x.tables ∙ sym y.tables;
+      owners = same_owners os ps (same_makers t (makers_in os) (makers_in ps) (long (λ o. o.maker)) x.makers y.makers) (same_takers t (takers_in os) (takers_in ps) (long (λ o. o.taker)) x.takers y.takers);
+      ranges = x.ranges ∙ sym y.ranges;
+      boxes = same_boxes k t (boxes_in (vec_items g.replacements)) (boxes_in (vec_items h.replacements)) x.boxes y.boxes;
+    }
 
 pub checked_once : {K F P : Type 0} (m : Ghosts K F P) (k : Shape F P) → CheckedOnce m k
 checked_once m k t corners (Ok g) (Ok h) x y = carried_once k.arity t g h x.2 y.2

@@ -1,26 +1,26 @@
 -- What the plain rules give to those who build on them. Assumes nothing.
-use Rattle.std.proofs.Common.{◌≡◌, ℕ, zero, suc, ◌+◌, ◌-◌, ◌*◌, ◌/◌, ◌<◌, ◌≤◌, Bool, true, cond, List, length, get_or, take, drop, ℤ, pos, negsuc, nat_abs, ◌<ℤ◌, is_some, Some, None, sym, ap, ◌∙◌, subst, ⊎_elim, mul_comm, mul-le-mul_left, le-div_iff_mul-le, mul-add, arith}
+use Rattle.std.proofs.Common.{◌≡◌, ℕ, zero, suc, ◌+◌, ◌-◌, ◌*◌, ◌/◌, ◌<◌, ◌≤◌, Bool, true, cond, List, length, get_or, take, drop, ℤ, pos, negsuc, ◌<ℤ◌, is_some, Some, None, sym, ap, ◌∙◌, subst, ⊎_elim, mul_comm, mul-le-mul_left, le-div_iff_mul-le, mul-add, arith}
 use native.Mathlib.Nat.{div-eq_of_eq-mul_right}
 use Rattle.std.proofs.ByRecursion.{All-append, All-get_or, All-weaker}
-use Rattle.std.proofs.lemmas.List.{get_or-take, get_or-drop, length-append, length-take, length-take-le, length-drop}
+use Rattle.std.proofs.lemmas.List.{get_or-take, get_or-drop, length-take, length-take-le, length-drop}
 use Rattle.std.proofs.lemmas.Int.{ints}
 use Rattle.std.proofs.lemmas.Bool.{cases_lt, lt-ltb}
 use Rattle.std.specs.List.{range_with_len, flat_map, AllByRecursion}
-use Rattle.boxes.specs.declared.spot.Spot.{Spot}
-use Rattle.boxes.specs.Spots.{spot}
+use Rattle.kinds.specs.declared.places.Spot.{Spot}
+use Rattle.kinds.specs.Places.{spot}
 use Rattle.kinds.specs.Shapes.{Shape}
 use Rattle.owners.specs.Owners.{cells_made, count_of}
-use Rattle.owners.proofs.Ties.{numbered}
 use Rattle.rules.specs.Rows.{cells_in, replacements_in}
 use Rattle.rules.specs.Raw.{at, cell, field}
 use Rattle.rules.specs.Ranges.{before, first_made, taken_by}
 use Rattle.rules.specs.Values.{Numbered}
-use Rattle.rules.proofs.Cells.{range_within}
+use Rattle.rules.proofs.Cells.{range_within, replacement_tells}
 use Rattle.rules.proofs.Ranges.{before_rises, range_ends, cells_add_up, lists_add_up}
 use Rattle.rules.proofs.Rows.{Plain}
 use Rattle.tables.specs.declared.contents.Places.{Places}
 use Rattle.tables.specs.Tables.{Tables, CellsCounted, ReplacementsCounted, TakenCounted}
 use Rattle.hierarchy.specs.Derived.{made_corners, RimsFit, BoxesReady}
+use Rattle.hierarchy.proofs.Cells.{run_of_cells}
 
 -- ---- numbers
 wider : (z : ℤ) (a b : ℕ) → a ≤ b → Numbered a z → Numbered b z
@@ -28,15 +28,6 @@ wider z a b le h = (h.0, omega (arith, ints, h.1))
 
 all_wider : (a b : ℕ) → a ≤ b → (zs : List ℤ) → AllByRecursion (Numbered a) zs → AllByRecursion (Numbered b) zs
 all_wider a b le zs h = All-weaker (Numbered a) (Numbered b) (λ z x. wider z a b le x) zs h
-
-above_none : (z : ℤ) → pos 0 <ℤ z → 0 < nat_abs z
-above_none (pos n) h = omega (arith, ints)
-above_none (negsuc n) h = omega arith
-
-both_above : (y z : ℤ) → pos 0 <ℤ y → y <ℤ z → nat_abs y < nat_abs z
-both_above (pos m) (pos n) a b = omega (arith, ints)
-both_above (pos m) (negsuc n) a b = absurd (omega (arith, ints))
-both_above (negsuc m) z a b = absurd (omega (arith, ints))
 
 -- a number of a vertex stands somewhere
 spotted : (vs : List ℤ) (z : ℤ) → Numbered (length vs / 3) z → is_some (spot vs z) ≡ true
@@ -82,7 +73,7 @@ module _ {F P : Type 0} (k : Shape F P) (t : Tables) (p : Places) (some : 0 < k.
   grows i h =
       let e : i + 1 - 1 ≡ i = omega arith in
       let g = subst (λ (j : ℕ). (pos 0 <ℤ field t.replacements j 1) × (field t.replacements j 1 <ℤ field t.replacements j 2)) e (plain.growth (i + 1) (omega arith) (omega arith)) in
-      (above_none (field t.replacements i 1) g.0, both_above (field t.replacements i 1) (field t.replacements i 2) g.0 g.1)
+      (omega (arith, ints, g.0), omega (arith, ints, g.0, g.1))
 
   pub takes : (i : ℕ) → i < reps → 0 < count_of 1 t.replacements i
   takes i h = (grows i h).0
@@ -121,7 +112,7 @@ module _ {F P : Type 0} (k : Shape F P) (t : Tables) (p : Places) (some : 0 < k.
   -- there is room for the facets of every replacement where there is twice as much as there are corners
   pub rims_fit : (room : ℕ) → 2 * length t.corners ≤ room → RimsFit a t room
   rims_fit room wide n real =
-      let r = numbered t n real in
+      let r = (replacement_tells t n).0 real in
       let e : n - 1 + 1 ≡ n = omega (arith, r.0) in
       let within : first_made t n + count_of 2 t.replacements (n - 1) ≤ cells_in a t = range_within a t adds_up n r.0 r.1 in
       let g = grows (n - 1) (omega (arith, r.0, r.1)) in
@@ -139,22 +130,19 @@ module _ {F P : Type 0} (k : Shape F P) (t : Tables) (p : Places) (some : 0 < k.
   run_numbered c (suc m) h =
       All-append (Numbered (length t.coordinates / 3)) (cell a t.corners c) (flat_map (cell a t.corners) (range_with_len (c + 1) m)) (plain.corners c (omega arith) (omega arith)) (run_numbered (c + 1) m (omega arith))
 
-  cell_long : (c : ℕ) → c < cells_in a t → length (cell a t.corners c) ≡ a
-  cell_long c h = let m : a * (c + 1) ≤ a * cells_in a t = mul-le-mul_left a (omega arith) in length-take-le a (drop (a * c) t.corners) (omega (arith, length-drop (a * c) t.corners, whole, mul-add a c 1))
-
-  run_long : (c m : ℕ) → c + suc m ≤ cells_in a t → 0 < length (flat_map (cell a t.corners) (range_with_len c (suc m)))
-  run_long c m h = omega (arith, length-append (cell a t.corners c) (flat_map (cell a t.corners) (range_with_len (c + 1) m)), cell_long c (omega arith), some)
+  run_long : (c m : ℕ) → c + m ≤ cells_in a t → length (flat_map (cell a t.corners) (range_with_len c m)) ≡ a * m
+  run_long c m h = ap length (run_of_cells a t.corners c m) ∙ length-take-le (a * m) (drop (a * c) t.corners) (omega (arith, length-drop (a * c) t.corners, whole, mul-le-mul_left a h, mul-add a c m))
 
   pub boxes_ready : BoxesReady a t
   boxes_ready n real =
-      let r = numbered t n real in
+      let r = (replacement_tells t n).0 real in
       let within : first_made t n + count_of 2 t.replacements (n - 1) ≤ cells_in a t = range_within a t adds_up n r.0 r.1 in
       let g = grows (n - 1) (omega (arith, r.0, r.1)) in
-      let more : suc (count_of 2 t.replacements (n - 1) - 1) ≡ count_of 2 t.replacements (n - 1) = omega (arith, g.1) in
+      let own : ℕ = count_of 2 t.replacements (n - 1) in
       record {
         whole = omega (arith, whole, mul-le-mul_left a within);
         spotted = record {
-          one = subst (λ (m : ℕ). 0 < length (flat_map (cell a t.corners) (range_with_len (first_made t n) m))) more (run_long (first_made t n) (count_of 2 t.replacements (n - 1) - 1) (omega (arith, more, within)));
+          one = let least : a * 1 ≤ a * own = mul-le-mul_left a (omega (arith, g.1)) in omega (arith, run_long (first_made t n) own within, some, least);
           all = All-weaker (Numbered (length t.coordinates / 3)) (λ z. is_some (spot t.coordinates z) ≡ true) (spotted t.coordinates) (made_corners a t n) (run_numbered (first_made t n) (count_of 2 t.replacements (n - 1)) within);
         };
       }

@@ -4,7 +4,7 @@ use Rattle.std.specs.List.{AllZip}
 use Rattle.boxes.specs.declared.extent.Extent.{Extent}
 use Rattle.faults.specs.declared.Fault.{Fault}
 use Rattle.kinds.specs.Shapes.{Shape}
-use Rattle.owners.specs.Owners.{Makers, Takers, parts_of}
+use Rattle.owners.specs.Owners.{Makers, makers_in, Takers, takers_in, parts_of}
 use Rattle.tables.specs.declared.contents.Places.{Places}
 use Rattle.tables.specs.Judging.{Refused}
 use Rattle.tables.specs.Tables.{Tables}
@@ -13,25 +13,22 @@ use Rattle.rules.specs.Raw.{lists_of}
 use Rattle.rules.specs.Hierarchies.{hierarchy_rows, MultiTriangulation}
 use Rattle.kinds.specs.declared.kind.Kind.{Ghosts}
 use Rattle.hierarchy.specs.declared.hierarchy.Hierarchy.{Hierarchy}
-use Rattle.hierarchy.specs.Derived.{Boxes}
+use Rattle.hierarchy.specs.Derived.{Boxes, boxes_in, ranges_in}
 
 -- the places that a check has for the tables: for so many corners, and of every other table just for what it has
 abbrev pub places_for : Tables → ℕ → Places
 places_for t corners = record { coordinates = length t.coordinates; corners = corners; replacements = length t.replacements; taken = length t.taken }
 
--- The hierarchy has these tables of cells with k corners, and what is worked out from them is right: the counts, the ranges and the box of
--- each replacement, the maker and the taker of each cell.
+-- The hierarchy has these tables of cells with k corners, and what is worked out from them is right: the counts, the maker and the taker of
+-- each cell, the ranges and the box of each replacement.
 pub record Carries {K F P : Type 0} {m : Ghosts K F P} (k : ℕ) (t : Tables) (h : Hierarchy K F P m) : Type 0 where
   pub tables : lists_of h.tables ≡ t
-  pub width : h.width ≡ k
-  pub cells : h.cells ≡ cells_in k t
-  pub replacements : h.replacements ≡ replacements_in t
-  pub ranges : vec_items h.parts ≡ parts_of t
-  pub boxes : Boxes k t (vec_items h.boxes)
-  pub makers_long : length (vec_items h.makers) ≡ cells_in k t
-  pub makers : Makers t (vec_items h.makers)
-  pub takers_long : length (vec_items h.takers) ≡ cells_in k t
-  pub takers : Takers t (vec_items h.takers)
+  pub cells : length (vec_items h.owners) ≡ cells_in k t
+  pub makers : Makers t (makers_in (vec_items h.owners))
+  pub takers : Takers t (takers_in (vec_items h.owners))
+  pub replacements : length (vec_items h.replacements) ≡ replacements_in t
+  pub ranges : ranges_in (vec_items h.replacements) ≡ parts_of t
+  pub boxes : Boxes k t (boxes_in (vec_items h.replacements))
 
 -- Tables are accepted where they are a Multi-Triangulation of the kind and there are places for their corners; else the first broken rule is
 -- told, at its lowest place.
@@ -40,20 +37,16 @@ Accepting k t corners r = MatchResult r (λ h. MultiTriangulation k t × (length
 
 -- two boxes with the same sides
 pub record SameSides (b d : Extent) : Type 0 where
-  pub x : (b.x0 ≡ d.x0) × (b.x1 ≡ d.x1)
-  pub y : (b.y0 ≡ d.y0) × (b.y1 ≡ d.y1)
-  pub z : (b.z0 ≡ d.z0) × (b.z1 ≡ d.z1)
+  pub x : (b.x.low ≡ d.x.low) × (b.x.high ≡ d.x.high)
+  pub y : (b.y.low ≡ d.y.low) × (b.y.high ≡ d.y.high)
+  pub z : (b.z.low ≡ d.z.low) × (b.z.high ≡ d.z.high)
 
 -- two hierarchies that do not differ in anything that can be asked of them
 pub record Alike {K F P : Type 0} {m : Ghosts K F P} (g h : Hierarchy K F P m) : Type 0 where
   pub tables : lists_of g.tables ≡ lists_of h.tables
-  pub width : g.width ≡ h.width
-  pub cells : g.cells ≡ h.cells
-  pub replacements : g.replacements ≡ h.replacements
-  pub ranges : vec_items g.parts ≡ vec_items h.parts
-  pub boxes : AllZip SameSides (vec_items g.boxes) (vec_items h.boxes)
-  pub makers : vec_items g.makers ≡ vec_items h.makers
-  pub takers : vec_items g.takers ≡ vec_items h.takers
+  pub owners : vec_items g.owners ≡ vec_items h.owners
+  pub ranges : ranges_in (vec_items g.replacements) ≡ ranges_in (vec_items h.replacements)
+  pub boxes : AllZip SameSides (boxes_in (vec_items g.replacements)) (boxes_in (vec_items h.replacements))
 
 -- the same comes of both: hierarchies that do not differ, or the same fault
 abbrev pub SameOutcome : {K F P : Type 0} {m : Ghosts K F P} → Result (Hierarchy K F P m) Fault → Result (Hierarchy K F P m) Fault → Type 0

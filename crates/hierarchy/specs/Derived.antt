@@ -1,9 +1,11 @@
 -- What an accepted hierarchy is known by besides its makers, takers and ranges: the box of each replacement, and the order of its replacements.
 -- Assumes nothing.
-use Rattle.std.specs.Prelude.{◌≡◌, ℕ, ◌+◌, ◌-◌, ◌*◌, ◌<◌, ◌≤◌, true, List, length, ℤ, MatchOption}
+use Rattle.std.specs.Prelude.{◌≡◌, ℕ, ◌+◌, ◌-◌, ◌*◌, ◌<◌, ◌≤◌, true, List, map, length, ℤ, MatchOption}
 use Rattle.std.specs.List.{flat_map, slice_get}
 use Rattle.boxes.specs.declared.extent.Extent.{Extent}
 use Rattle.boxes.specs.Spots.{Smallest, Spotted}
+use Rattle.hierarchy.specs.declared.replacement.Replacement.{Replacement}
+use Rattle.owners.specs.declared.part.Part.{Part}
 use Rattle.owners.specs.Owners.{cells_made, count_of}
 use Rattle.rims.specs.Rims.{Fitting}
 use Rattle.tables.specs.Judging.{Clear}
@@ -22,6 +24,13 @@ made_corners k t n = flat_map (cell k t.corners) (made_cells t n)
 -- the box of replacement n: the smallest around the corners of the cells that it makes
 abbrev pub BoxOf : ℕ → Tables → ℕ → Extent → Type 0
 BoxOf k t n b = Smallest t.coordinates (made_corners k t n) b
+
+-- the ranges and the boxes of a list of both
+abbrev pub ranges_in : List Replacement → List Part
+ranges_in rs = map (λ r. r.ranges) rs
+
+abbrev pub boxes_in : List Replacement → List Extent
+boxes_in rs = map (λ r. r.around) rs
 
 -- one box for each replacement, at the place before its number
 pub record Boxes (k : ℕ) (t : Tables) (bs : List Extent) : Type 0 where

@@ -1,8 +1,8 @@
 // The memory that a check needs, got before it.
 ghost use Rattle.std.specs.Prelude.{◌*◌, ◌≤◌};
 
-use boxes::Extent;
-use owners::{Blank, Part};
+use crate::Replacement;
+use owners::{Blank, Owners};
 use rims::RimMemory;
 
 mod make;
@@ -11,10 +11,8 @@ mod make;
 #[derive(Drop)]
 pub struct Workspace {
     pub(crate) corners: usize,
-    pub(crate) parts: Blank<Part, 4096>,
-    pub(crate) boxes: Blank<Extent, 4096>,
-    pub(crate) makers: Blank<u32, 16_384>,
-    pub(crate) takers: Blank<u32, 16_384>,
+    pub(crate) owners: Blank<Owners, 16_384>,
+    pub(crate) replacements: Blank<Replacement, 4096>,
     pub(crate) rims: RimMemory,
     ghost ample: { 2 * corners ≤ rims.room },
 }

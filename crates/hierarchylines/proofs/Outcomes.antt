@@ -18,9 +18,6 @@ use Rattle.hierarchylines.specs.Reading.{LineHolds, Lists, lists, places_of, all
 use Rattle.hierarchylines.proofs.Counts.{counted, fits}
 use Rattle.hierarchylines.proofs.Tokens.{one_hierarchy}
 
-pub passed_holds : {bs : List ℕ} {before after : Fillings} {c : Contents} → LinePassed bs before after c → LineHolds bs c
-passed_holds x = record { value = x.value; says = x.says; shaped = x.shaped; contents = x.contents }
-
 -- the lists, of which no place is used yet
 abbrev pub unused : Lists → Fillings
 unused l = fillings (lent l.coordinates 0) (lent l.corners 0) (lent l.replacements 0) (lent l.taken 0)

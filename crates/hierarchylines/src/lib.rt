@@ -16,36 +16,17 @@ use tables::{Contents, Places};
 fn check_hierarchy(line: &[u8]) -> Result<Contents, Fault>
     ensures { MatchResult result (LineHolds line.now) (Misread hierarchy line.now) }
 {
-    let mut vertices = [];
-    let mut cells = [];
-    let mut records = [];
-    let mut numbers = [];
-    let mut coordinates = Sink {
-        places: &mut vertices,
-        used: 0,
-    };
-    let mut corners = Sink {
-        places: &mut cells,
-        used: 0,
-    };
-    let mut replacements = Sink {
-        places: &mut records,
-        used: 0,
-    };
-    let mut taken = Sink {
-        places: &mut numbers,
-        used: 0,
-    };
     pass_hierarchy(
         line,
-        &mut coordinates,
-        &mut corners,
-        &mut replacements,
-        &mut taken,
+        &mut Sink::over(&mut []),
+        &mut Sink::over(&mut []),
+        &mut Sink::over(&mut []),
+        &mut Sink::over(&mut []),
     )
 }
 
 // How many places the four lists have.
+// stays: the four lists come from C.
 fn places_in(coordinates: &[i32], corners: &[i32], replacements: &[i32], taken: &[i32]) -> Places
     ensures { result ≡ places_of (lists coordinates.now corners.now replacements.now taken.now) }
 {
@@ -58,6 +39,7 @@ fn places_in(coordinates: &[i32], corners: &[i32], replacements: &[i32], taken: 
 }
 
 // Reads the tables of a hierarchy line into the first places of four lists, and answers how many entries they have.
+// stays: C hands four such lists over, each as a pointer and a length.
 pub fn read_hierarchy(
     line: &[u8],
     coordinates: &mut [i32],
@@ -70,23 +52,13 @@ pub fn read_hierarchy(
     let contents = check_hierarchy(line)?;
     let places = places_in(coordinates, corners, replacements, taken);
     contents.judge(&places)?;
-    let mut vertices = Sink {
-        places: coordinates,
-        used: 0,
-    };
-    let mut cells = Sink {
-        places: corners,
-        used: 0,
-    };
-    let mut records = Sink {
-        places: replacements,
-        used: 0,
-    };
-    let mut numbers = Sink {
-        places: taken,
-        used: 0,
-    };
-    pass_hierarchy(line, &mut vertices, &mut cells, &mut records, &mut numbers)
+    pass_hierarchy(
+        line,
+        &mut Sink::over(coordinates),
+        &mut Sink::over(corners),
+        &mut Sink::over(replacements),
+        &mut Sink::over(taken),
+    )
 }
 
 // Reading a line into lists comes to one thing only.

@@ -1,13 +1,13 @@
 -- A hierarchy line, part by part. Assumes nothing.
-use Rattle.std.proofs.Common.{◌≡◌, ℕ, ◌+◌, ◌≤◌, eqb, List, [], ◌∷◌, ◌++◌, length, drop, Some, sym, refl, ap, ◌∙◌, subst, arith}
+use Rattle.std.proofs.Common.{◌≡◌, ℕ, ◌+◌, ◌≤◌, eqb, List, [], ◌∷◌, ◌++◌, length, Some, sym, refl, ap, ◌∙◌, subst, arith}
 use Rattle.std.specs.List.{AllByRecursion}
 use Rattle.faults.specs.declared.Fault.{Fault}
 use Rattle.forms.specs.Form.{Form, nothing, ◌then◌, symbol}
 use Rattle.forms.specs.Array.{sign, listed, row, row_tokens}
-use Rattle.forms.specs.Progress.{ahead, onto}
+use Rattle.forms.specs.Progress.{onto}
 use Rattle.forms.specs.Line.{Misread}
 use Rattle.forms.proofs.Onto.{shuns, shuns_mark, or_left, or_right}
-use Rattle.scanner.specs.Scanner.{text, Step, Passed, Missed, Lost, Begun, Finished, Unfinished}
+use Rattle.scanner.specs.Scanner.{text, next_byte, Step, Passed, Missed, Lost, Begun, Finished, Unfinished}
 use Rattle.scanner.specs.declared.Scanner.{Scanner}
 use Rattle.scanner.proofs.Lines.{line_lost, line_unfinished, line_says}
 use Rattle.scanner.proofs.Steps.{step_on, lost_after, lost_by, lost_first, lost_before, step_before, mark_step, mark_last, still}
@@ -17,17 +17,24 @@ use Rattle.arrays.proofs.Lists.{puts-append}
 use Rattle.tables.specs.Kind.{corners_of}
 use Rattle.tables.specs.declared.contents.Contents.{Contents}
 use Rattle.tables.specs.declared.kind.CellKind.{CellKind}
+use Rattle.tables.specs.declared.kind.CellKind.TheVariants.{Segment, Triangle}
 use Rattle.hierarchypass.specs.Line.{Hierarchy, hierarchy, Shaped, Made, replacement, body, kinds, body_tokens, tokens, made_corners, made_count, taken_count, contents_of, tables_of}
-use Rattle.hierarchypass.specs.Passing.{Growth, growth, ReplacementsKept, Fillings, fillings, with_tables, KindPassed, BodyPassed, LinePassed}
+use Rattle.hierarchypass.specs.Passing.{Growth, growth, ReplacementsKept, Fillings, fillings, with_tables, KindComes, KindPassed, BodyPassed, LinePassed}
 use Rattle.hierarchypass.proofs.Sizes.{array_long, array_size}
 
 -- the kind
 module _ {r : Scanner} where
-  pub three : ahead (drop r.at (text r)) ≡ Some 51 → Step r r kinds (sign 51 then body 3) []
-  three n = still kinds (sign 51 then body 3) (λ L K e apt h. or_left n (shuns (eqb 51) (onto (sign 50 then body 2) K) refl 51 refl) h)
+  pub three : next_byte r ≡ Some 51 → KindComes r Triangle
+  three n = record { step = still kinds (sign 51 then body 3) (λ L K e apt h. or_left n (shuns (eqb 51) (onto (sign 50 then body 2) K) refl 51 refl) h) }
 
-  pub two : (ahead (drop r.at (text r)) ≡ Some 51 → ⊥) → Step r r kinds (sign 50 then body 2) []
-  two none = still kinds (sign 50 then body 2) (λ L K e apt h. or_right refl (shuns_mark none) h)
+  pub two : (next_byte r ≡ Some 51 → ⊥) → KindComes r Segment
+  two none = record { step = still kinds (sign 50 then body 2) (λ L K e apt h. or_right refl (shuns_mark none) h) }
+
+  pub no_kind : {kind : CellKind} {f : Fault} → KindComes r kind → Missed r (sign (48 + corners_of kind)) f → Lost r kinds f
+  no_kind {kind} comes m = lost_after comes.step (lost_first (body (corners_of kind)) m)
+
+  pub kind_passed : {s : Scanner} {kind : CellKind} → KindComes r kind → Passed r s (48 + corners_of kind) → KindPassed r s kind
+  kind_passed {s} {kind} comes p = record { step = step_on comes.step (mark_step p (body (corners_of kind)) (λ K apt. refl)) }
 
 -- what is left of a line after its kind, part by part
 abbrev replacements_left : ℕ → Form
@@ -174,3 +181,7 @@ module _ {bs : List ℕ} {r : Scanner} (b : Begun bs r) where
 
         pub passed : Finished e → LinePassed bs before after n
         passed x = record { value = m.value; says = line_says opened refl b all x; shaped = m.shaped; contents = m.contents; kept = m.kept }
+
+-- where the sinks are known by other names
+pub same_fillings : {bs : List ℕ} {before : Fillings} {n : Contents} {v c c' r r' t t' : Filling} → c' ≡ c → r' ≡ r → t' ≡ t → LinePassed bs before (fillings v c r t) n → LinePassed bs before (fillings v c' r' t') n
+same_fillings {bs} {before} {n} {v} a b d x = subst (λ (f : Fillings). LinePassed bs before f n) (λ i. fillings v (sym a i) (sym b i) (sym d i)) x

@@ -3,18 +3,19 @@ use Rattle.std.proofs.Common.{◌≡◌, ℕ, ◌+◌, ◌≤◌, length, pos, s
 use Rattle.faults.specs.declared.Fault.{Fault}
 use Rattle.forms.specs.Form.{Form, ◌then◌}
 use Rattle.forms.specs.Array.{sign, whole, listed, row, single, row_tokens}
-use Rattle.forms.specs.Progress.{Element}
 use Rattle.scanner.specs.Scanner.{text, Passed, Missed, Lost}
 use Rattle.scanner.specs.declared.Scanner.{Scanner}
 use Rattle.scanner.proofs.Steps.{step_on, lost_after, lost_by, lost_first, lost_before, step_before, mark_step, mark_last}
 use Rattle.arrays.specs.Sink.{Filling, put, put_all}
 use Rattle.arrays.specs.Listing.{NumberKept, NumbersKept, RowsKept}
 use Rattle.hierarchypass.specs.Line.{Replacement, replacement, record_of}
-use Rattle.hierarchypass.specs.Passing.{growth, ReplacementKept}
-use Rattle.hierarchypass.proofs.Sizes.{array_long}
+use Rattle.hierarchypass.specs.Passing.{Growth, growth, ReplacementKept}
+use Rattle.hierarchypass.proofs.Sizes.{array_long, one_size}
 
-pub replacement_element : (k : ℕ) → Element (replacement k)
-replacement_element k = record { clear = λ K. refl; ends = λ K. refl }
+-- the totals are still no more than the bytes
+pub still_fits : (k : ℕ) {r s : Scanner} {before after : Growth} → ReplacementKept k r s before after → before.takes + before.makes ≤ r.at → after.takes + after.makes ≤ s.at
+still_fits k x fit =
+    omega (arith, fit, x.step.on, one_size x.value, ap (λ (g : Growth). g.takes) x.kept, ap (λ (g : Growth). g.makes) x.kept)
 
 -- what is left of a replacement after each of its parts but the last
 abbrev made_left : ℕ → Form
@@ -77,11 +78,11 @@ module _ (k : ℕ) {o a : Scanner} (p1 : Passed o a 91) where
             pub end_lost : {f : Fault} → Missed g (sign 93) f → Lost o (replacement k) f
             end_lost z = back5 (lost_after (step_before (sign 93) (λ K apt. (refl, refl)) q.step) (lost_by z))
 
-            pub replaced : {h : Scanner} {r3 : Filling} → Passed g h 93 → r3 ≡ put (pos y) (put (pos x) r1) → (takes makes : ℕ) → ReplacementKept k o h (growth w r0 t takes makes) (growth w' r3 t' (takes + x) (makes + y))
-            replaced {h} {r3} p4 e takes makes =
+            pub replaced : {h : Scanner} → Passed g h 93 → (takes makes : ℕ) → ReplacementKept k o h (growth w r0 t takes makes) (growth w' (put (pos y) (put (pos x) r1)) t' (takes + x) (makes + y))
+            replaced {h} p4 takes makes =
                 let v : Replacement = record { error = n.value; taken = m.value; made = q.value } in
-                let counts : r3 ≡ put_all (record_of v) r0 =
-                e ∙ ap (λ (f : Filling). put (pos y) (put (pos x) f)) n.kept ∙ (λ i. put (pos (sym q.is.0 i)) (put (pos (sym m.is i)) (put n.value r0))) in
+                let counts : put (pos y) (put (pos x) r1) ≡ put_all (record_of v) r0 =
+                ap (λ (f : Filling). put (pos y) (put (pos x) f)) n.kept ∙ (λ i. put (pos (sym q.is.0 i)) (put (pos (sym m.is i)) (put n.value r0))) in
                 record {
                   value = v;
                   is = q.is.1;

@@ -1,14 +1,13 @@
 -- A text has at least as many tokens as entries, so no count exceeds its bytes. Assumes nothing.
-use Rattle.std.proofs.Common.{◌≡◌, ℕ, ◌+◌, ◌<◌, ◌≤◌, List, [], ◌∷◌, ◌++◌, length, sym, ap, ◌∙◌, add-zero, add_assoc, arith, length-append}
+use Rattle.std.proofs.Common.{◌≡◌, ℕ, ◌+◌, ◌<◌, ◌≤◌, List, [], ◌∷◌, ◌++◌, length, sym, ◌∙◌, add-zero, add_assoc, arith, length-append}
 use Rattle.forms.specs.Form.{Token, symbol}
-use Rattle.forms.specs.Array.{among, parts, array, single, row_tokens}
-use Rattle.scanner.specs.Scanner.{text}
+use Rattle.forms.specs.Array.{listed, among, parts, array, single, row_tokens}
 use Rattle.scanner.specs.declared.Scanner.{Scanner}
-use Rattle.arrays.specs.Sink.{Filling, put, puts, flat}
-use Rattle.arrays.specs.Listing.{Listing}
-use Rattle.arrays.proofs.Lists.{puts-append}
+use Rattle.arrays.specs.Sink.{put, puts, flat}
+use Rattle.arrays.specs.Listing.{Kept, Several}
+use Rattle.arrays.proofs.Lists.{puts-append, kept_as}
 use Rattle.hierarchypass.specs.Line.{Replacement, replacement, replacement_tokens, Made, made_corners, record_of, records, all_taken, made_count, taken_count}
-use Rattle.hierarchypass.specs.Passing.{Growth, growth, with_replacement, with_replacements}
+use Rattle.hierarchypass.specs.Passing.{Growth, growth, with_replacement, with_replacements, Replacements, ReplacementsKept}
 
 among_long : {A : Type 0} (f : A → List Token) (xs : List A) → length xs ≤ length (among f xs)
 among_long f [] = omega arith
@@ -18,7 +17,7 @@ pub array_long : {A : Type 0} (f : A → List Token) → ((x : A) → 0 < length
 array_long f some [] = omega arith
 array_long f some (x ∷ xs) = omega (arith, some x, among_long f xs, length-append (f x) (among f xs), length-append (f x ++ among f xs) (symbol 93 ∷ []))
 
-one_size : (r : Replacement) → length r.taken + length r.made ≤ length (replacement_tokens r)
+pub one_size : (r : Replacement) → length r.taken + length r.made ≤ length (replacement_tokens r)
 one_size r =
     omega (
       arith,
@@ -32,7 +31,7 @@ among_size : (rs : List Replacement) → taken_count rs + made_count rs ≤ leng
 among_size [] = omega arith
 among_size (r ∷ rs) = omega (arith, one_size r, among_size rs, length-append (replacement_tokens r) (among replacement_tokens rs))
 
-pub parts_size : (rs : List Replacement) → taken_count rs + made_count rs ≤ length (parts replacement_tokens rs)
+parts_size : (rs : List Replacement) → taken_count rs + made_count rs ≤ length (parts replacement_tokens rs)
 parts_size [] = omega arith
 parts_size (r ∷ rs) = omega (arith, one_size r, among_size rs, length-append (replacement_tokens r) (among replacement_tokens rs))
 
@@ -51,11 +50,6 @@ replacements_are (r ∷ rs) g =
     (add_assoc g.takes (length r.taken) (taken_count rs) i)
     (add_assoc g.makes (length r.made) (made_count rs) i))
 
--- the totals of the replacements read so far are no more than the bytes of the line
-module _ {k count : ℕ} {r s : Scanner} {c c' p p' t t' : Filling} {takes makes : ℕ} (l : Listing (Made k) replacement_tokens with_replacement (replacement k) r s count (growth c p t 0 0) (growth c' p' t' takes makes)) where
-  pub few_totals : takes + makes ≤ length (text r)
-  few_totals =
-      let e = l.kept ∙ replacements_are l.values (growth c p t 0 0) in
-      let x : takes ≡ 0 + taken_count l.values = ap (λ (g : Growth). g.takes) e in
-      let y : makes ≡ 0 + made_count l.values = ap (λ (g : Growth). g.makes) e in
-      omega (arith, x, y, parts_size l.values, l.step.on, l.inside)
+-- an array of replacements
+pub replacements_kept : {k n : ℕ} {r s : Scanner} {before after : Growth} → Kept (Several (Made k) n) (array replacement_tokens) (puts with_replacement) (listed (replacement k)) r s before after → ReplacementsKept k n r s before after
+replacements_kept {k} {n} x = kept_as (Replacements k n) with_replacements (λ y h. h) replacements_are x

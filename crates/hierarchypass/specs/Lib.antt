@@ -1,2 +1,4 @@
 pub mod Line
 pub mod Passing
+pub mod Growing
+pub mod Fitting

@@ -1,8 +1,8 @@
 -- What a pass over a part of a hierarchy line comes to. Assumes nothing.
 use Rattle.std.specs.Prelude.{◌≡◌, ℕ, ◌+◌, List, [], ◌∷◌, length}
 use Rattle.std.specs.List.{AllByRecursion}
-use Rattle.forms.specs.Array.{array, listed}
-use Rattle.forms.specs.Form.{nothing, symbol}
+use Rattle.forms.specs.Array.{sign, array, listed}
+use Rattle.forms.specs.Form.{nothing, ◌then◌, symbol}
 use Rattle.arrays.specs.Sink.{Filling, put_all, put_rows}
 use Rattle.arrays.specs.Listing.{Kept}
 use Rattle.scanner.specs.Scanner.{Step}
@@ -43,7 +43,10 @@ Replacements k count rs = (length rs ≡ count) × AllByRecursion (Made k) rs
 abbrev pub ReplacementsKept : ℕ → ℕ → Scanner → Scanner → Growth → Growth → Type 0
 ReplacementsKept k count = Kept (Replacements k count) (array replacement_tokens) with_replacements (listed (replacement k))
 
--- a scanner read the kind
+-- if a kind comes, then this one; and a scanner read the kind
+pub record KindComes (r : Scanner) (kind : CellKind) : Type 0 where
+  pub step : Step r r kinds (sign (48 + corners_of kind) then body (corners_of kind)) []
+
 pub record KindPassed (r s : Scanner) (kind : CellKind) : Type 0 where
   pub step : Step r s kinds (body (corners_of kind)) (symbol (48 + corners_of kind) ∷ [])
 

@@ -1,92 +1,96 @@
 // The replacements of a hierarchy line.
-ghost use Rattle.std.specs.Prelude.{◌≡◌, ℕ, ◌+◌, ◌≤◌, length, pos, MatchResult};
+ghost use Rattle.std.specs.Prelude.{◌≡◌, ◌+◌, ◌≤◌, length, pos, refl};
 ghost use Rattle.arrays.specs.Sink.{filling, put};
-ghost use Rattle.forms.specs.Array.{listed};
-ghost use Rattle.hierarchypass.specs.Line.{replacement};
-ghost use Rattle.hierarchypass.specs.Passing.{growth, ReplacementKept, ReplacementsKept};
-ghost use Rattle.scanner.specs.Scanner.{text, Lost};
+ghost use Rattle.hierarchypass.specs.Line.{Replacement as Said, replacement, replacement_tokens, Made};
+ghost use Rattle.hierarchypass.specs.Passing.{Growth, growth, with_replacement};
+ghost use Rattle.hierarchypass.specs.Growing.{Names, grown, growth_lenders};
+ghost use Rattle.hierarchypass.specs.Fitting.{some_tokens, Fits, fits_later};
+ghost use Rattle.scanner.specs.Scanner.{text};
 
-use arrays::{Sink, another, keep_number, keep_numbers, keep_rows};
+use arrays::{Entry, Number, Row, Sink, keep_list};
 use faults::Fault;
 use scanner::Scanner;
 
-// How many replacements there are, and how many cells they take and make.
-#[derive(Clone, Copy)]
-pub struct Totals {
-    pub count: usize,
-    pub takes: usize,
-    pub makes: usize,
+// How many cells the replacements take and make.
+#[derive(Clone, Copy, Debug, PartialEq, Eq)]
+pub(crate) struct Totals {
+    pub(crate) takes: usize,
+    pub(crate) makes: usize,
 }
 
-// Keeps the counts of a replacement's record, which follow its error.
-fn keep_counts(replacements: &mut Sink<'_>, takes: usize, makes: usize)
-    requires few_taken { takes ≤ 65536 }
-    requires few_made { makes ≤ 65536 }
-    ensures lender { replacements.new.places.ghost_name ≡ replacements.old.places.ghost_name }
-    ensures kept { filling replacements.new ≡ put (pos makes) (put (pos takes) (filling replacements.old)) }
-{
-    replacements.keep(takes as i32);
-    replacements.keep(makes as i32);
+// The lists that grow with each replacement, and the totals of those that were read. Each reference has lifetimes of its own: only
+// so a proof knows, when the struct is gone, what the caller's list holds.
+#[derive(Drop)]
+pub(crate) struct Growing<'c, 'r, 't, 'x, 'y, 'z> {
+    pub(crate) corners: &'c mut Sink<'x>,
+    pub(crate) replacements: &'r mut Sink<'y>,
+    pub(crate) taken: &'t mut Sink<'z>,
+    pub(crate) totals: Totals,
 }
 
-// Reads a replacement, keeps its made cells, its record and its taken numbers, and answers how many cells it takes and makes.
-fn pass_replacement(
-    scanner: &mut Scanner<'_>,
-    width: usize,
-    corners: &mut Sink<'_>,
-    replacements: &mut Sink<'_>,
-    taken: &mut Sink<'_>,
-) -> Result<(usize, usize), Fault>
-    requires { length (text scanner.old) ≤ 65536 }
-    ensures corners_lender { corners.new.places.ghost_name ≡ corners.old.places.ghost_name }
-    ensures replacements_lender { replacements.new.places.ghost_name ≡ replacements.old.places.ghost_name }
-    ensures taken_lender { taken.new.places.ghost_name ≡ taken.old.places.ghost_name }
-    ensures reads { MatchResult result (λ n. (t m : ℕ) → ReplacementKept width scanner.old scanner.new (growth (filling corners.old) (filling replacements.old) (filling taken.old) t m) (growth (filling corners.new) (filling replacements.new) (filling taken.new) (t + n.0) (m + n.1))) (Lost scanner.old (replacement width)) }
-{
-    scanner.pass(b'[')?;
-    keep_number(scanner, replacements)?;
-    scanner.pass(b',')?;
-    let takes = keep_numbers(scanner, taken)?;
-    scanner.pass(b',')?;
-    let makes = keep_rows(scanner, width, corners)?;
-    scanner.pass(b']')?;
-    keep_counts(replacements, takes, makes);
-    Ok((takes, makes))
-}
-
-// Reads an array of replacements, keeps all of them, and answers how many they are and how many cells they take and make.
-pub(crate) fn pass_replacements(
-    scanner: &mut Scanner<'_>,
-    width: usize,
-    corners: &mut Sink<'_>,
-    replacements: &mut Sink<'_>,
-    taken: &mut Sink<'_>,
-) -> Result<Totals, Fault>
-    requires { length (text scanner.old) ≤ 65536 }
-    ensures corners_lender { corners.new.places.ghost_name ≡ corners.old.places.ghost_name }
-    ensures replacements_lender { replacements.new.places.ghost_name ≡ replacements.old.places.ghost_name }
-    ensures taken_lender { taken.new.places.ghost_name ≡ taken.old.places.ghost_name }
-    ensures reads { MatchResult result (λ n. ReplacementsKept width n.count scanner.old scanner.new (growth (filling corners.old) (filling replacements.old) (filling taken.old) 0 0) (growth (filling corners.new) (filling replacements.new) (filling taken.new) n.takes n.makes)) (Lost scanner.old (listed (replacement width))) }
-{
-    scanner.pass(b'[')?;
-    let mut count = 0;
-    let mut takes = 0;
-    let mut makes = 0;
-    while another(scanner, count)? {
-        let (more_taken, more_made) = pass_replacement(
-            scanner,
-            width,
-            corners,
-            replacements,
-            taken,
-        )?;
-        takes += more_taken;
-        makes += more_made;
-        count += 1;
+impl Growing<'_, '_, '_, '_, '_, '_> {
+    // Keeps the counts of a replacement's record, which follow its error, and adds them to the totals.
+    fn count(&mut self, takes: usize, makes: usize)
+        requires few_taken { takes ≤ 65536 }
+        requires few_made { makes ≤ 65536 }
+        requires few { self.old.totals.takes + self.old.totals.makes ≤ 65536 }
+        ensures lender { growth_lenders self.new ≡ growth_lenders self.old }
+        ensures kept { grown self.new ≡ growth (filling self.old.corners.now) (put (pos makes) (put (pos takes) (filling self.old.replacements.now))) (filling self.old.taken.now) (self.old.totals.takes + takes) (self.old.totals.makes + makes) }
+    {
+        self.replacements.keep(takes as i32);
+        self.replacements.keep(makes as i32);
+        self.totals.takes += takes;
+        self.totals.makes += makes;
     }
-    Ok(Totals {
-        count,
-        takes,
-        makes,
-    })
+}
+
+// A replacement with cells of `width` corners: its made cells, its record and its taken numbers are kept.
+#[derive(Clone, Copy, Debug, PartialEq, Eq)]
+pub(crate) struct Replacement {
+    pub(crate) width: usize,
+}
+
+impl<'c, 'r, 't, 'x, 'y, 'z> Entry<Growing<'c, 'r, 't, 'x, 'y, 'z>> for Replacement {
+    ghost Value = { Said };
+
+    ghost is = { λ e. Made e.width };
+
+    ghost form = { λ e. replacement e.width };
+
+    ghost print = { replacement_tokens };
+
+    ghost Held = { Growth };
+
+    ghost held = { grown };
+
+    ghost with_one = { with_replacement };
+
+    ghost Lenders = { Names };
+
+    ghost lenders = { growth_lenders };
+
+    ghost fits = { Fits };
+
+    ghost some = { some_tokens };
+
+    ghost element = { λ e. record { clear = λ K. refl; ends = λ K. refl } };
+
+    ghost fits_on = { fits_later };
+
+    fn keep(
+        &self,
+        scanner: &mut Scanner<'_>,
+        lists: &mut Growing<'c, 'r, 't, 'x, 'y, 'z>,
+    ) -> Result<(), Fault> {
+        scanner.pass(b'[')?;
+        Number.keep(scanner, lists.replacements)?;
+        scanner.pass(b',')?;
+        let takes = keep_list(scanner, &Number, lists.taken)?;
+        scanner.pass(b',')?;
+        let cell = Row { width: self.width };
+        let makes = keep_list(scanner, &cell, lists.corners)?;
+        scanner.pass(b']')?;
+        lists.count(takes, makes);
+        Ok(())
+    }
 }

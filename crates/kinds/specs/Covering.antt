@@ -5,7 +5,7 @@ use Rattle.std.proofs.Common.{◌∙◌, arith}
 use Rattle.std.proofs.Math.IntN.{*ℤ-zero}
 use Rattle.whole.proofs.Identities.{ring, #, ◌⊕◌, ◌⊖◌, ◌⊗◌, lit}
 use Rattle.whole.proofs.Signs.{linear, above_above, above_below, nonpos_natural, nonpos_nonpos, nonpos_above, nonpos_below, Order, less, equal, more, order}
-use Rattle.kinds.specs.declared.places.PlanePoint.{PlanePoint}
+use Rattle.kinds.specs.Places.{PlanePoint}
 use Rattle.kinds.specs.Sides.{side, parts, rotated, balance_y, apart}
 use Rattle.kinds.specs.OnEdge.{On, Height, low, above, height, crosses_down, crosses_up, third}
 use Rattle.kinds.specs.Crossings.{turn, flat_low, flat_high, up_left, up_right, down_left, down_right}

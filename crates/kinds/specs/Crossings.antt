@@ -3,7 +3,7 @@ use Rattle.std.specs.Prelude.{◌≡◌, cond, ◌&&◌, ℤ, pos, negsuc, ◌-�
 use Rattle.std.proofs.Common.{arith}
 use Rattle.std.proofs.lemmas.Int.{ints}
 use Rattle.whole.proofs.Signs.{linear}
-use Rattle.kinds.specs.declared.places.PlanePoint.{PlanePoint}
+use Rattle.kinds.specs.Places.{PlanePoint}
 use Rattle.kinds.specs.Sides.{side, turned}
 
 -- what a rising edge counts, as `rise` of the specs says it, kept shut

@@ -1,9 +1,10 @@
 -- Examples of each kind, which are computed: a cell with a point that it covers, one outside and one on a facet. Assumes nothing.
 use Rattle.std.specs.Prelude.{◌≡◌, true, false, List, [], ◌∷◌, ℤ, pos, negsuc}
+use Rattle.kinds.specs.declared.kind.Signed.TheVariants.{Plus, Minus}
 use Rattle.kinds.specs.declared.numbers.VertexId.{VertexId}
-use Rattle.kinds.specs.declared.places.PlanePoint.{PlanePoint}
+use Rattle.kinds.specs.Places.{PlanePoint}
 use Rattle.kinds.specs.declared.triangle.Edge.{Edge}
-use Rattle.kinds.specs.Facets.{with_plus, with_minus, total, Off}
+use Rattle.kinds.specs.Facets.{total, Off}
 use Rattle.kinds.specs.Segments as segment
 use Rattle.kinds.specs.Triangles as triangle
 
@@ -32,7 +33,7 @@ abbrev pub TriangleExamples : Type 0
 TriangleExamples =
     -- it is sound, and its rim is 0 to 1 plus, 1 to 2 plus, and 0 to 2 minus
     (triangle.sound_in vertices corners ≡ true)
-    × (triangle.rim_of corners ≡ with_plus (edge (pos 0) (pos 1)) ∷ with_plus (edge (pos 1) (pos 2)) ∷ with_minus (edge (pos 0) (pos 2)) ∷ [])
+    × (triangle.rim_of corners ≡ Plus (edge (pos 0) (pos 1)) ∷ Plus (edge (pos 1) (pos 2)) ∷ Minus (edge (pos 0) (pos 2)) ∷ [])
     -- it covers (1, 1), which is off its edges, and their weights say so
     × Off (λ e. triangle.meets_edge vertices e (at (pos 1) (pos 1))) (triangle.rim_of corners)
     × (triangle.covers_in vertices corners (at (pos 1) (pos 1)) ≡ true)
@@ -50,7 +51,7 @@ TriangleExamples =
     × (triangle.covers_in vertices corners (at (pos 4) (pos 0)) ≡ false)
     -- a neighbour runs the edge of 0 and 1 the other way: the same edge, and the other sign
     × (triangle.sound_in vertices (pos 1 ∷ pos 0 ∷ pos 3 ∷ []) ≡ true)
-    × (triangle.rim_of (pos 1 ∷ pos 0 ∷ pos 3 ∷ []) ≡ with_minus (edge (pos 0) (pos 1)) ∷ with_plus (edge (pos 0) (pos 3)) ∷ with_minus (edge (pos 1) (pos 3)) ∷ [])
+    × (triangle.rim_of (pos 1 ∷ pos 0 ∷ pos 3 ∷ []) ≡ Minus (edge (pos 0) (pos 1)) ∷ Plus (edge (pos 0) (pos 3)) ∷ Minus (edge (pos 1) (pos 3)) ∷ [])
     -- three corners on one line are not sound, and three of which one is no vertex cover nothing
     × (triangle.sound_in vertices (pos 0 ∷ pos 1 ∷ pos 0 ∷ []) ≡ false)
     × (triangle.covers_in vertices (pos 0 ∷ pos 1 ∷ pos 4 ∷ []) (at (pos 1) (pos 1)) ≡ false)
@@ -71,7 +72,7 @@ abbrev pub SegmentExamples : Type 0
 SegmentExamples =
     -- it is sound, and its rim is 3 minus and 1 plus
     (segment.rising vertices ends ≡ true)
-    × (segment.rim_of ends ≡ with_minus (vertex (pos 3)) ∷ with_plus (vertex (pos 1)) ∷ [])
+    × (segment.rim_of ends ≡ Minus (vertex (pos 3)) ∷ Plus (vertex (pos 1)) ∷ [])
     -- it covers 0, which is off its vertices, and their weights say so
     × Off (λ v. segment.stands_at vertices v (pos 0)) (segment.rim_of ends)
     × (segment.between vertices ends (pos 0) ≡ true)

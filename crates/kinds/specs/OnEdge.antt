@@ -5,7 +5,7 @@ use Rattle.std.proofs.Math.IntN.{*ℤ-zero}
 use borrow.Author.Differences.{lt-true, lt-false}
 use Rattle.whole.proofs.Identities.{ring, #, ◌⊖◌, ◌⊗◌, ⊝, lit}
 use Rattle.whole.proofs.Signs.{linear, natural_natural, Order, less, equal, more, order}
-use Rattle.kinds.specs.declared.places.PlanePoint.{PlanePoint}
+use Rattle.kinds.specs.Places.{PlanePoint}
 use Rattle.kinds.specs.Sides.{side, turned, balance_x, balance_y, apart}
 
 -- p lies between u and v, which are in no order, or at one of them

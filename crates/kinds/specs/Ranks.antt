@@ -1,7 +1,8 @@
 -- Numbers of 32 bits are told by their ranks, and edges by their keys. Assumes nothing.
-use Rattle.std.specs.Prelude.{◌≡◌, ℕ, ◌+◌, ◌*◌, ◌^◌, ◌<◌, Bool, true, false, ◌&&◌, ℤ, refl}
+use Rattle.std.specs.Prelude.{◌≡◌, ℕ, ◌+◌, ◌*◌, ◌^◌, ◌<◌, true, ℤ}
 use Rattle.std.proofs.Common.{ap₂, arith}
 use Rattle.std.proofs.lemmas.Int.{ints}
+use Rattle.std.proofs.lemmas.Bool.{and_parts}
 use Rattle.kinds.specs.declared.triangle.Edge.{Edge}
 use Rattle.kinds.specs.Numbers.{fits, rank}
 use Rattle.kinds.specs.Triangles.{real_edge, edge_key}
@@ -16,18 +17,13 @@ rank_tells y z h k e = grind (arith, ints)
 halves : (a b c d : ℕ) → b < 2 ^ 32 → d < 2 ^ 32 → 2 ^ 32 * a + b ≡ 2 ^ 32 * c + d → (a ≡ c) × (b ≡ d)
 halves a b c d h k e = (omega arith, omega arith)
 
-both : (a b : Bool) → (a && b) ≡ true → (a ≡ true) × (b ≡ true)
-both true true e = (refl, refl)
-both true false e = let z : ◌≡◌ {A = ℕ} 0 1 = cc in absurd (omega arith)
-both false b e = let z : ◌≡◌ {A = ℕ} 0 1 = cc in absurd (omega arith)
-
 abbrev edge : ℤ → ℤ → Edge
 edge u v = record { low = record { 0 = u }; high = record { 0 = v } }
 
 pub keys_tell : (e f : Edge) → real_edge e ≡ true → real_edge f ≡ true → edge_key e ≡ edge_key f → e ≡ f
 keys_tell e f h k same =
-    let r = both (fits e.low.0) (fits e.high.0) h in
-    let s = both (fits f.low.0) (fits f.high.0) k in
+    let r = and_parts (fits e.low.0) (fits e.high.0) h in
+    let s = and_parts (fits f.low.0) (fits f.high.0) k in
     let d = halves (rank e.low.0) (rank e.high.0) (rank f.low.0) (rank f.high.0) (rank_below e.high.0 r.1) (rank_below f.high.0 s.1) same in
     let low = rank_tells e.low.0 f.low.0 r.0 s.0 d.0 in
     let high = rank_tells e.high.0 f.high.0 r.1 s.1 d.1 in

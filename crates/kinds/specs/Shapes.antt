@@ -13,9 +13,6 @@ pub record Shape (F P : Type 0) : Type 0 where
   pub meets : List ℤ → F → P → Bool
   pub alike : F → F → Bool
 
-abbrev pub shape : {F P : Type 0} → ℕ → (List ℤ → List (Signed F)) → (List ℤ → List ℤ → Bool) → (List ℤ → List ℤ → P → Bool) → (List ℤ → F → P → Bool) → (F → F → Bool) → Shape F P
-shape arity rim sound covers meets alike = record { arity = arity; rim = rim; sound = sound; covers = covers; meets = meets; alike = alike }
-
 -- the signed count of the facet f: how often it is counted plus, less how often it is counted minus
 abbrev pub tally : {F P : Type 0} → Shape F P → F → List (Signed F) → ℤ
 tally k f = total (λ g. cond (k.alike g f) (pos 1) (pos 0))

@@ -1,7 +1,7 @@
 -- On which side of the way from a to b a point c lies, and the identities that tie the sides of three ways round. Assumes nothing.
 use Rattle.std.specs.Prelude.{◌≡◌, List, [], ◌∷◌, ℤ, pos, ◌+ℤ◌, ◌-ℤ◌, ◌*ℤ◌, neg_ℤ}
 use Rattle.whole.proofs.Identities.{ring, Ex, #, ◌⊕◌, ◌⊖◌, ◌⊗◌, ⊝, lit}
-use Rattle.kinds.specs.declared.places.PlanePoint.{PlanePoint}
+use Rattle.kinds.specs.Places.{PlanePoint}
 use Rattle.kinds.specs.Triangles.{orient}
 
 -- the orientation of three points, kept shut: only the identities look inside

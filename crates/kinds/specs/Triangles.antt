@@ -1,25 +1,15 @@
 -- The triangle as a kind of cell. Assumes nothing.
-use Rattle.std.specs.Prelude.{ℕ, ◌+◌, ◌*◌, ◌^◌, Bool, false, cond, ◌&&◌, ◌||◌, List, [], ◌∷◌, ℤ, pos, ◌-ℤ◌, ◌*ℤ◌, Some, None, Option, int_le, int_lt}
+use Rattle.std.specs.Prelude.{ℕ, ◌+◌, ◌*◌, ◌^◌, Bool, false, cond, ◌&&◌, ◌||◌, List, [], ◌∷◌, ℤ, pos, ◌-ℤ◌, Some, None, Option, int_le, int_lt}
 use Rattle.kinds.specs.declared.kind.Signed.{Signed}
+use Rattle.kinds.specs.declared.kind.Signed.TheVariants.{Plus, Minus}
 use Rattle.kinds.specs.declared.numbers.VertexId.{VertexId}
-use Rattle.kinds.specs.declared.places.PlanePoint.{PlanePoint}
+use Rattle.kinds.specs.Places.{PlanePoint, way, cross, place}
 use Rattle.kinds.specs.declared.triangle.Corners.{Corners}
 use Rattle.kinds.specs.declared.triangle.Edge.{Edge}
-use Rattle.kinds.specs.declared.triangle.Spots.{Spots}
-use Rattle.kinds.specs.declared.triangle.Way.{Way}
-use Rattle.kinds.specs.Facets.{with_plus, with_minus}
 use Rattle.kinds.specs.Numbers.{fits, rank, level}
-use Rattle.kinds.specs.Places.{place}
+use Rattle.kinds.specs.Shapes.{Shape}
 
 -- ---- in the plane
--- the way from a to b
-abbrev pub way : PlanePoint → PlanePoint → Way
-way a b = record { x = b.x -ℤ a.x; y = b.y -ℤ a.y }
-
--- above 0 where the way w goes off to the left of the way v
-abbrev pub cross : Way → Way → ℤ
-cross v w = v.x *ℤ w.y -ℤ w.x *ℤ v.y
-
 -- above 0 where c lies strictly left of the way from a to b: (bx - ax)(cy - ay) - (cx - ax)(by - ay)
 abbrev pub orient : PlanePoint → PlanePoint → PlanePoint → ℤ
 orient a b c = cross (way a b) (way a c)
@@ -41,7 +31,7 @@ rise u v p = cond (int_le u.y p.y && (int_lt p.y v.y && left_of u v p)) (pos 1) 
 
 -- ---- cells
 -- the corners of a cell, which are three
-abbrev pub corners_of : List ℤ → Option Corners
+abbrev pub corners_of : List ℤ → Option (Corners VertexId)
 corners_of [] = None
 corners_of (a ∷ []) = None
 corners_of (a ∷ b ∷ []) = None
@@ -49,45 +39,45 @@ corners_of (a ∷ b ∷ c ∷ []) = Some (record { a = record { 0 = a }; b = rec
 corners_of (a ∷ b ∷ c ∷ d ∷ rest) = None
 
 -- where three corners stand, which are vertices
-abbrev pub joined : Option PlanePoint → Option PlanePoint → Option PlanePoint → Option Spots
+abbrev pub joined : Option PlanePoint → Option PlanePoint → Option PlanePoint → Option (Corners PlanePoint)
 joined None b c = None
 joined (Some a) None c = None
 joined (Some a) (Some b) None = None
 joined (Some a) (Some b) (Some c) = Some (record { a = a; b = b; c = c })
 
-abbrev pub placed : List ℤ → Option Corners → Option Spots
-placed vs None = None
-placed vs (Some t) = joined (place vs t.a.0) (place vs t.b.0) (place vs t.c.0)
+abbrev pub places_of : List ℤ → Corners VertexId → Option (Corners PlanePoint)
+places_of vs t = joined (place vs t.a.0) (place vs t.b.0) (place vs t.c.0)
 
-abbrev pub spots_of : List ℤ → List ℤ → Option Spots
-spots_of vs cell = placed vs (corners_of cell)
+abbrev pub placed : List ℤ → Option (Corners VertexId) → Option (Corners PlanePoint)
+placed vs None = None
+placed vs (Some t) = places_of vs t
 
 -- a triangle is sound where its corners turn left
-abbrev pub turns : Option Spots → Bool
+abbrev pub turns : Option (Corners PlanePoint) → Bool
 turns None = false
 turns (Some s) = left_of s.a s.b s.c
 
 abbrev pub sound_in : List ℤ → List ℤ → Bool
-sound_in vs cell = turns (spots_of vs cell)
+sound_in vs cell = turns (placed vs (corners_of cell))
 
 -- it covers the points strictly left of its three edges, as it runs them
-abbrev pub holds : Option Spots → PlanePoint → Bool
+abbrev pub holds : Option (Corners PlanePoint) → PlanePoint → Bool
 holds None p = false
 holds (Some s) p = left_of s.a s.b p && (left_of s.b s.c p && left_of s.c s.a p)
 
 abbrev pub covers_in : List ℤ → List ℤ → PlanePoint → Bool
-covers_in vs cell p = holds (spots_of vs cell) p
+covers_in vs cell p = holds (placed vs (corners_of cell)) p
 
 -- ---- edges
 -- an edge that is run from u to v: plus from the lower number to the higher, else minus
 abbrev pub run : VertexId → VertexId → Signed Edge
-run u v = cond (int_lt u.0 v.0) (with_plus (record { low = u; high = v })) (with_minus (record { low = v; high = u }))
+run u v = cond (int_lt u.0 v.0) (Plus (record { low = u; high = v })) (Minus (record { low = v; high = u }))
 
 -- the facets are the three edges, from corner to corner
-abbrev pub corners_rim : Corners → List (Signed Edge)
+abbrev pub corners_rim : Corners VertexId → List (Signed Edge)
 corners_rim t = run t.a t.b ∷ run t.b t.c ∷ run t.c t.a ∷ []
 
-abbrev pub rim_at : Option Corners → List (Signed Edge)
+abbrev pub rim_at : Option (Corners VertexId) → List (Signed Edge)
 rim_at None = []
 rim_at (Some t) = corners_rim t
 
@@ -121,3 +111,7 @@ real_edge e = fits e.low.0 && fits e.high.0
 
 abbrev pub edge_key : Edge → ℕ
 edge_key e = 2 ^ 32 * rank e.low.0 + rank e.high.0
+
+-- ---- the kind
+abbrev pub triangles : Shape Edge PlanePoint
+triangles = record { arity = 3; rim = rim_of; sound = sound_in; covers = covers_in; meets = meets_edge; alike = same_edge }

@@ -1,10 +1,7 @@
-// Examples of each kind: the calls do nothing, and what they ensure is computed when they are proved.
+// Examples of each kind: the call does nothing, and what it ensures is computed when it is proved.
 ghost use Rattle.kinds.specs.Examples.{TriangleExamples, SegmentExamples};
 
-pub fn triangle_examples()
-    ensures { TriangleExamples }
-{}
-
-pub fn segment_examples()
-    ensures { SegmentExamples }
+pub fn kind_examples()
+    ensures triangle { TriangleExamples }
+    ensures segment { SegmentExamples }
 {}

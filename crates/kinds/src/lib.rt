@@ -11,9 +11,9 @@ mod places;
 mod segment;
 mod triangle;
 
-pub use examples::{segment_examples, triangle_examples};
+pub use examples::kind_examples;
 pub use kind::{Kind, Signed};
 pub use numbers::{CellId, ReplacementId, VertexId};
-pub use places::PlanePoint;
+pub use places::{Plane, PlanePoint, Spot, spot_of};
 pub use segment::Segment;
 pub use triangle::{Edge, Triangle};

@@ -4,16 +4,17 @@ ghost use Rattle.kinds.specs.Numbers.{rank};
 
 use whole::gap;
 
+// stays: three types around a number, since none is to be taken for another; a number and a tag would say in two words what each says in one.
 // The number of a vertex, from 0. Any other number of an `i32` is the number of no vertex.
-#[derive(Clone, Copy)]
+#[derive(Clone, Copy, Debug, PartialEq, Eq)]
 pub struct VertexId(pub i32);
 
 // The number of a cell, from 0.
-#[derive(Clone, Copy)]
+#[derive(Clone, Copy, Debug, PartialEq, Eq)]
 pub struct CellId(pub u32);
 
 // The number of a replacement, from 1.
-#[derive(Clone, Copy)]
+#[derive(Clone, Copy, Debug, PartialEq, Eq)]
 pub struct ReplacementId(pub u32);
 
 impl VertexId {

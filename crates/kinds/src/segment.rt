@@ -1,32 +1,26 @@
 // The segment: two corners, the second at the greater x. Its facets are its two vertices.
 ghost use Rattle.std.specs.Prelude.{◌≡◌, int_lt};
-ghost use Rattle.kinds.specs.Segments.{ends_of, ends_rim, rim_of, stretch_of, rising, between, stands_at, beyond, same_vertex, real_vertex, vertex_key};
+ghost use Rattle.kinds.specs.Segments.{ends_of, ends_rim, stretch_of, segments, beyond, real_vertex, vertex_key};
 ghost use Rattle.std.specs.List.{slice_get};
 ghost use Rattle.std.proofs.Common.{rules};
 
 use crate::places::place_of;
 use crate::{Kind, Signed, VertexId};
 
-#[derive(Clone, Copy)]
+#[derive(Clone, Copy, Debug, PartialEq, Eq)]
 pub struct Segment;
 
-// The corners of a segment.
-#[derive(Clone, Copy)]
-pub struct Ends {
-    pub from: VertexId,
-    pub to: VertexId,
+// What belongs to each corner of a segment: its vertex, or the x of that.
+#[derive(Clone, Copy, Debug, PartialEq, Eq)]
+pub struct Ends<T> {
+    pub from: T,
+    pub to: T,
 }
 
-// The x of the corners.
-#[derive(Clone, Copy)]
-pub struct Stretch {
-    pub from: i32,
-    pub to: i32,
-}
-
-impl Ends {
+impl Ends<VertexId> {
     // The corners of the cell; None where it has another number of them.
-    fn of(cell: &[i32]) -> Option<Ends>
+    // stays: `TryFrom` would need an error that says no more than None.
+    fn of(cell: &[i32]) -> Option<Ends<VertexId>>
         ensures { result ≡ ends_of cell.now }
     {
         let [from, to] = cell else {
@@ -39,37 +33,29 @@ impl Ends {
     }
 
     // The vertex at a place of the rim: the first corner minus, the second plus.
+    // stays: a kind gives its facets by their places.
     fn at(self, i: usize) -> Option<Signed<VertexId>>
         ensures { result ≡ slice_get (ends_rim self) i }
     {
         match i {
-            0 => Some(Signed {
-                facet: self.from,
-                plus: false,
-            }),
-            1 => Some(Signed {
-                facet: self.to,
-                plus: true,
-            }),
+            0 => Some(Signed::Minus(self.from)),
+            1 => Some(Signed::Plus(self.to)),
             _ => None,
         }
     }
-}
 
-impl Stretch {
-    // The x of the cell's corners; None where one is no vertex.
-    fn of(vertices: &[i32], cell: &[i32]) -> Option<Stretch>
-        ensures { result ≡ stretch_of vertices.now cell.now }
+    // The x of the corners; None where one is no vertex.
+    fn stretch(self, vertices: &[i32]) -> Option<Ends<i32>>
+        ensures { result ≡ stretch_of vertices.now self }
     {
-        let ends = Ends::of(cell)?;
-        let from = place_of(vertices, ends.from)?;
-        let to = place_of(vertices, ends.to)?;
-        Some(Stretch {
-            from: from.x,
-            to: to.x,
+        Some(Ends {
+            from: place_of(vertices, self.from)?.x,
+            to: place_of(vertices, self.to)?.x,
         })
     }
+}
 
+impl Ends<i32> {
     // Whether the second corner has the greater x.
     fn rises(self) -> bool
         ensures { result ≡ int_lt self.from self.to }
@@ -85,23 +71,17 @@ impl Kind for Segment {
 
     type Point = i32;
 
-    ghost arity = { 2 };
+    ghost CORNERS = { 2 };
 
-    ghost rim = { rim_of };
-
-    ghost sound = { rising };
-
-    ghost covers = { between };
-
-    ghost meets = { stands_at };
+    ghost shape = { segments };
 
     ghost weight = { beyond };
-
-    ghost alike = { same_vertex };
 
     ghost real = { real_vertex };
 
     ghost key = { vertex_key };
+
+    ghost sized = { Prim.search rules };
 
     ghost some = { Prim.search rules };
 
@@ -119,15 +99,11 @@ impl Kind for Segment {
 
     ghost rimmed = { Prim.search rules };
 
-    fn corner_count() -> usize {
-        Self::CORNERS
-    }
-
+    // stays: these read as those of the triangle, but each step is of other types and answers another word.
     fn is_sound(vertices: &[i32], cell: &[i32]) -> bool {
-        match Stretch::of(vertices, cell) {
-            Some(stretch) => stretch.rises(),
-            None => false,
-        }
+        Ends::of(cell)
+            .and_then(|ends| ends.stretch(vertices))
+            .is_some_and(|stretch| stretch.rises())
     }
 
     fn facet(cell: &[i32], i: usize) -> Option<Signed<VertexId>> {
@@ -139,6 +115,6 @@ impl Kind for Segment {
     }
 
     fn same(a: VertexId, b: VertexId) -> bool {
-        a.0 == b.0
+        a == b
     }
 }

@@ -1,6 +1,6 @@
 // The triangle: three corners that turn left, seen from above. Its facets are its three edges.
-ghost use Rattle.std.specs.Prelude.{◌≡◌, ◌*ℤ◌, int_lt};
-ghost use Rattle.kinds.specs.Triangles.{way, run, corners_of, corners_rim, rim_of, spots_of, left_of, sound_in, covers_in, meets_edge, edge_weight, same_edge, real_edge, edge_key};
+ghost use Rattle.std.specs.Prelude.{◌≡◌};
+ghost use Rattle.kinds.specs.Triangles.{run, corners_of, corners_rim, places_of, left_of, triangles, edge_weight, real_edge, edge_key};
 ghost use Rattle.std.specs.List.{slice_get};
 ghost use Rattle.kinds.specs.Ranks.{keys_tell};
 ghost use Rattle.kinds.specs.Telling;
@@ -8,39 +8,24 @@ ghost use Rattle.std.proofs.Common.{rules};
 
 use crate::places::place_of;
 use crate::{Kind, PlanePoint, Signed, VertexId};
-use whole::{gap, times};
 
-#[derive(Clone, Copy)]
+#[derive(Clone, Copy, Debug, PartialEq, Eq)]
 pub struct Triangle;
 
 // Two vertices in no order: `Edge::run`, which alone makes edges, puts the lower number first.
-#[derive(Clone, Copy)]
+// stays: an interval has two fields of one type as well, but an edge has nothing in between.
+#[derive(Clone, Copy, Debug, PartialEq, Eq)]
 pub struct Edge {
     low: VertexId,
     high: VertexId,
 }
 
-// The corners of a triangle.
-#[derive(Clone, Copy)]
-pub struct Corners {
-    pub a: VertexId,
-    pub b: VertexId,
-    pub c: VertexId,
-}
-
-// Where the corners stand.
-#[derive(Clone, Copy)]
-pub struct Spots {
-    pub a: PlanePoint,
-    pub b: PlanePoint,
-    pub c: PlanePoint,
-}
-
-// The way from one point of the plane to another.
-#[derive(Clone, Copy)]
-pub struct Way {
-    pub x: i64,
-    pub y: i64,
+// What belongs to each corner of a triangle: its vertex, or where that stands.
+#[derive(Clone, Copy, Debug, PartialEq, Eq)]
+pub struct Corners<T> {
+    pub a: T,
+    pub b: T,
+    pub c: T,
 }
 
 impl Edge {
@@ -49,21 +34,16 @@ impl Edge {
         ensures { result ≡ run u v }
     {
         if u.0 < v.0 {
-            return Signed {
-                facet: Edge { low: u, high: v },
-                plus: true,
-            };
+            return Signed::Plus(Edge { low: u, high: v });
         }
-        Signed {
-            facet: Edge { low: v, high: u },
-            plus: false,
-        }
+        Signed::Minus(Edge { low: v, high: u })
     }
 }
 
-impl Corners {
+impl Corners<VertexId> {
     // The corners of the cell; None where it has another number of them.
-    fn of(cell: &[i32]) -> Option<Corners>
+    // stays: `TryFrom` would need an error that says no more than None.
+    fn of(cell: &[i32]) -> Option<Corners<VertexId>>
         ensures { result ≡ corners_of cell.now }
     {
         let [a, b, c] = cell else {
@@ -77,6 +57,7 @@ impl Corners {
     }
 
     // The edge at a place of the rim.
+    // stays: a kind gives its facets by their places.
     fn at(self, i: usize) -> Option<Signed<Edge>>
         ensures { result ≡ slice_get (corners_rim self) i }
     {
@@ -87,44 +68,27 @@ impl Corners {
             _ => None,
         }
     }
-}
 
-impl Way {
-    fn from(a: PlanePoint, b: PlanePoint) -> Way
-        ensures { result ≡ way a b }
+    // Where the corners stand; None where one is no vertex.
+    fn places(self, vertices: &[i32]) -> Option<Corners<PlanePoint>>
+        ensures { result ≡ places_of vertices.now self }
     {
-        Way {
-            x: gap(a.x, b.x),
-            y: gap(a.y, b.y),
-        }
-    }
-
-    // Whether the other way, from the same point, goes off to the left.
-    fn turns_left(self, other: Way) -> bool
-        ensures { result ≡ int_lt (other.x *ℤ self.y) (self.x *ℤ other.y) }
-    {
-        times(self.x, other.y) > times(other.x, self.y)
-    }
-}
-
-impl Spots {
-    // Where the cell's corners stand; None where one is no vertex.
-    fn of(vertices: &[i32], cell: &[i32]) -> Option<Spots>
-        ensures { result ≡ spots_of vertices.now cell.now }
-    {
-        let corners = Corners::of(cell)?;
-        Some(Spots {
-            a: place_of(vertices, corners.a)?,
-            b: place_of(vertices, corners.b)?,
-            c: place_of(vertices, corners.c)?,
+        Some(Corners {
+            a: place_of(vertices, self.a)?,
+            b: place_of(vertices, self.b)?,
+            c: place_of(vertices, self.c)?,
         })
     }
+}
 
+impl Corners<PlanePoint> {
     // Whether the third lies strictly left of the way from the first to the second.
+    #[tactic(auto, using(whole::proofs::Signs::less_by))]
     fn turns_left(self) -> bool
         ensures { result ≡ left_of self.a self.b self.c }
     {
-        Way::from(self.a, self.b).turns_left(Way::from(self.a, self.c))
+        let side = self.a.way_to(self.b);
+        side.turns_left(self.a.way_to(self.c))
     }
 }
 
@@ -135,23 +99,17 @@ impl Kind for Triangle {
 
     type Point = PlanePoint;
 
-    ghost arity = { 3 };
+    ghost CORNERS = { 3 };
 
-    ghost rim = { rim_of };
-
-    ghost sound = { sound_in };
-
-    ghost covers = { covers_in };
-
-    ghost meets = { meets_edge };
+    ghost shape = { triangles };
 
     ghost weight = { edge_weight };
-
-    ghost alike = { same_edge };
 
     ghost real = { real_edge };
 
     ghost key = { edge_key };
+
+    ghost sized = { Prim.search rules };
 
     ghost some = { Prim.search rules };
 
@@ -159,25 +117,21 @@ impl Kind for Triangle {
 
     ghost sided = { Prim.search rules };
 
-    ghost tells = { λ vs cell p h o. Telling.tells vs p (corners_of cell) h o };
+    ghost tells = { λ vs cell p. Telling.tells vs p (corners_of cell) };
 
     ghost likes = { Prim.search rules };
 
     ghost likens = { Prim.search rules };
 
-    ghost keyed = { λ f g h k e. keys_tell f g h k e };
+    ghost keyed = { keys_tell };
 
     ghost rimmed = { Prim.search rules };
 
-    fn corner_count() -> usize {
-        Self::CORNERS
-    }
-
+    // stays: these read as those of the segment, but each step is of other types and answers another word.
     fn is_sound(vertices: &[i32], cell: &[i32]) -> bool {
-        match Spots::of(vertices, cell) {
-            Some(spots) => spots.turns_left(),
-            None => false,
-        }
+        Corners::of(cell)
+            .and_then(|corners| corners.places(vertices))
+            .is_some_and(|places| places.turns_left())
     }
 
     fn facet(cell: &[i32], i: usize) -> Option<Signed<Edge>> {
@@ -189,6 +143,6 @@ impl Kind for Triangle {
     }
 
     fn same(a: Edge, b: Edge) -> bool {
-        a.low.0 == b.low.0 && a.high.0 == b.high.0
+        a == b
     }
 }

@@ -5,6 +5,7 @@ ghost use Rattle.hierarchylines.specs.Reading.{lists};
 ghost use Rattle.linebench.specs.Packed.{OrderBenched, HierarchyBenched};
 
 // How many values the order has that was read, or its refusal.
+// stays: what C calls says again what the function says that it calls.
 #[unsafe(no_mangle)]
 pub extern "C" fn bench_read_order(line: &[u8], values: &mut [i32]) -> i64
     ensures { OrderBenched line.now values.old result values.new }
@@ -13,6 +14,7 @@ pub extern "C" fn bench_read_order(line: &[u8], values: &mut [i32]) -> i64
 }
 
 // How many cells the hierarchy has that was read, or its refusal.
+// stays: what C calls says again what the function says that it calls.
 #[unsafe(no_mangle)]
 pub extern "C" fn bench_read_hierarchy(
     line: &[u8],

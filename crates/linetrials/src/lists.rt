@@ -1,7 +1,6 @@
 // The lists that the trials are read into. Before each trial every place is set to a number that no line can say.
 use std::alloc::{AllocError, Global};
-use std::fmt::Write;
-use std::io;
+use std::fmt;
 
 const LONGEST: usize = 65_536;
 
@@ -9,64 +8,71 @@ const LONGEST_SHOWN: usize = 24;
 
 const UNSAID: i32 = 1_500_000_000;
 
+// A list of many places.
 #[derive(Drop)]
 pub struct Numbers {
     places: Vec<i32>,
 }
 
+// A list for an order, and one for each table of a hierarchy.
 #[derive(Drop)]
 pub struct Lists {
-    pub first: Numbers,
-    pub second: Numbers,
-    pub third: Numbers,
-    pub fourth: Numbers,
+    pub values: Numbers,
+    pub coordinates: Numbers,
+    pub corners: Numbers,
+    pub replacements: Numbers,
+    pub taken: Numbers,
 }
 
 // A hash of numbers that a line can say.
 fn hash(values: &[i32]) -> u64 {
-    let mut h = 0u64;
-    for v in values {
+    values.iter().fold(0, |h: u64, v| {
         let shifted = (*v as i64).saturating_add(1_000_000_000).max(0) as u64;
-        h = h.wrapping_mul(31).wrapping_add(shifted) % 4_294_967_296;
-    }
-    h
+        h.wrapping_mul(31).wrapping_add(shifted) % 4_294_967_296
+    })
 }
 
-// Whether no number was written.
-fn untouched(values: &[i32]) -> bool {
-    for v in values {
-        if *v != UNSAID {
-            return false;
+// The first values of a list, and the places after them, which had to stay; None where there are no such places.
+#[derive(Clone, Copy)]
+pub struct Shown<'a> {
+    values: Option<&'a [i32]>,
+    rest: Option<&'a [i32]>,
+}
+
+impl fmt::Display for Shown<'_> {
+    fn fmt<W: fmt::Write>(&self, f: &mut fmt::Formatter<W>) -> fmt::Result {
+        match self.values {
+            Some(values) => if values.len() > LONGEST_SHOWN {
+                let h = hash(values);
+                write!(f, " #{h}")?;
+            } else {
+                f.write_str(" :")?;
+                for value in values {
+                    write!(f, " {value}")?;
+                }
+            },
+            None => f.write_str(" NO PLACES")?,
+        }
+        let rest = Untouched(self.rest);
+        write!(f, "{rest}")
+    }
+}
+
+// Places that had to stay as they were: nothing is said where they did.
+#[derive(Clone, Copy)]
+pub struct Untouched<'a>(Option<&'a [i32]>);
+
+impl fmt::Display for Untouched<'_> {
+    fn fmt<W: fmt::Write>(&self, f: &mut fmt::Formatter<W>) -> fmt::Result {
+        match self.0 {
+            Some(values) => if values.iter().all(|v| *v == UNSAID) {
+                Ok(())
+            } else {
+                f.write_str(" DISTURBED")
+            },
+            None => f.write_str(" NO PLACES"),
         }
     }
-    true
-}
-
-// Adds a word where a place was written that had to stay.
-fn note_untouched(text: &mut String, rest: Option<&[i32]>) -> Result<(), AllocError> {
-    match rest {
-        Some(values) => if untouched(values) {
-            Ok(())
-        } else {
-            text.push_str(" DISTURBED")
-        },
-        None => text.push_str(" NO PLACES"),
-    }
-}
-
-// Adds the values that were read.
-fn note_values(text: &mut String, values: &[i32]) -> io::Result<()> {
-    if values.len() > LONGEST_SHOWN {
-        let h = hash(values);
-        write!(text, " #{h}")?;
-        return Ok(());
-    }
-    text.push_str(" :")?;
-    for v in values {
-        let value = *v;
-        write!(text, " {value}")?;
-    }
-    Ok(())
 }
 
 impl Numbers {
@@ -75,47 +81,36 @@ impl Numbers {
         Ok(Numbers { places })
     }
 
-    // Makes the first places such as no line leaves them.
-    pub fn reset(&mut self, places: usize) {
-        for v in self.places.iter_mut().take(places) {
-            *v = UNSAID;
-        }
-    }
-
-    // The first places, to be read into.
+    // The first places, to be read into, each as no line leaves it.
     pub fn lend(&mut self, places: usize) -> &mut [i32] {
         let end = places.min(self.places.len());
-        &mut self.places[0..end]
+        let lent = &mut self.places[0..end];
+        lent.fill(UNSAID);
+        lent
     }
 
-    // Adds the first values to the text, and whether the places after them stayed.
-    pub fn show(&self, text: &mut String, count: usize, places: usize) -> io::Result<()> {
-        match self.places.get(0..count) {
-            Some(values) => note_values(text, values)?,
-            None => text.push_str(" NO PLACES")?,
+    // The first values, and that the places after them stayed.
+    pub fn show(&self, count: usize, places: usize) -> Shown<'_> {
+        Shown {
+            values: self.places.get(0..count),
+            rest: self.places.get(count..places),
         }
-        note_untouched(text, self.places.get(count..places))?;
-        Ok(())
     }
 
-    // Adds whether all places stayed.
-    pub fn show_untouched(&self, text: &mut String, places: usize) -> io::Result<()> {
-        note_untouched(text, self.places.get(0..places))?;
-        Ok(())
+    // That all places stayed.
+    pub fn untouched(&self, places: usize) -> Untouched<'_> {
+        Untouched(self.places.get(0..places))
     }
 }
 
 impl Lists {
     pub fn new(heap: Global) -> Result<Lists, AllocError> {
-        let first = Numbers::new(heap)?;
-        let second = Numbers::new(heap)?;
-        let third = Numbers::new(heap)?;
-        let fourth = Numbers::new(heap)?;
         Ok(Lists {
-            first,
-            second,
-            third,
-            fourth,
+            values: Numbers::new(heap)?,
+            coordinates: Numbers::new(heap)?,
+            corners: Numbers::new(heap)?,
+            replacements: Numbers::new(heap)?,
+            taken: Numbers::new(heap)?,
         })
     }
 }

@@ -8,74 +8,59 @@ mod trials;
 
 use faults::Fault;
 use hierarchylines::read_hierarchy;
-use lists::{Lists, Numbers};
+use lists::Lists;
 use orderlines::read_order;
-use std::fmt::Write;
-use std::io;
 use std::io::Read;
-use tables::Contents;
-use trials::Trials;
+use std::{fmt, io};
+use tables::{Contents, Places};
+use trials::{Reading, Trials};
 
-// Adds the answer to an order.
-fn try_order(text: &mut String, line: &[u8], places: usize, lists: &mut Lists) -> io::Result<()> {
-    lists.first.reset(places);
-    match read_order(line, lists.first.lend(places)) {
+// A refusal: its number and its place.
+#[derive(Clone, Copy)]
+struct Refused(Fault);
+
+impl fmt::Display for Refused {
+    fn fmt<W: fmt::Write>(&self, f: &mut fmt::Formatter<W>) -> fmt::Result {
+        let number = u32::from(self.0.refusal);
+        let place = self.0.place;
+        write!(f, "{number} {place}")
+    }
+}
+
+// Reads an order, and prints the answer.
+fn try_order(rt: &HostRuntime, line: &[u8], places: usize, lists: &mut Lists) -> io::Result<()> {
+    match read_order(line, lists.values.lend(places)) {
         Ok(count) => {
-            write!(text, "ok {count}")?;
-            lists.first.show(text, count, places)?;
+            let values = lists.values.show(count, places);
+            println!(rt; "ok {count}{values}")
         }
         Err(fault) => {
-            let number = fault.refusal.number();
-            let place = fault.place;
-            write!(text, "{number} {place}")?;
-            lists.first.show_untouched(text, places)?;
+            let refused = Refused(fault);
+            let values = lists.values.untouched(places);
+            println!(rt; "{refused}{values}")
         }
     }
-    Ok(())
 }
 
-// How many places the four lists of a hierarchy have.
-#[derive(Clone, Copy)]
-struct Room {
-    coordinates: usize,
-    corners: usize,
-    replacements: usize,
-    taken: usize,
-}
-
-// Reads a hierarchy into so many places of four lists.
-fn read_into(
-    line: &[u8],
-    room: Room,
-    first: &mut Numbers,
-    second: &mut Numbers,
-    third: &mut Numbers,
-    fourth: &mut Numbers,
-) -> Result<Contents, Fault> {
+// Reads a hierarchy into so many places of the lists.
+fn read_into(line: &[u8], places: Places, lists: &mut Lists) -> Result<Contents, Fault> {
     read_hierarchy(
         line,
-        first.lend(room.coordinates),
-        second.lend(room.corners),
-        third.lend(room.replacements),
-        fourth.lend(room.taken),
+        lists.coordinates.lend(places.coordinates),
+        lists.corners.lend(places.corners),
+        lists.replacements.lend(places.replacements),
+        lists.taken.lend(places.taken),
     )
 }
 
-// Adds the answer to a hierarchy.
-fn try_hierarchy(text: &mut String, line: &[u8], room: Room, lists: &mut Lists) -> io::Result<()> {
-    lists.first.reset(room.coordinates);
-    lists.second.reset(room.corners);
-    lists.third.reset(room.replacements);
-    lists.fourth.reset(room.taken);
-    let read = read_into(
-        line,
-        room,
-        &mut lists.first,
-        &mut lists.second,
-        &mut lists.third,
-        &mut lists.fourth,
-    );
-    match read {
+// Reads a hierarchy, and prints the answer.
+fn try_hierarchy(
+    rt: &HostRuntime,
+    line: &[u8],
+    places: Places,
+    lists: &mut Lists,
+) -> io::Result<()> {
+    match read_into(line, places, lists) {
         Ok(contents) => {
             let kind = contents.kind.corners();
             let vertices = contents.vertices;
@@ -83,61 +68,29 @@ fn try_hierarchy(text: &mut String, line: &[u8], room: Room, lists: &mut Lists) 
             let cells = contents.cells;
             let replacements = contents.replacements;
             let taken = contents.taken;
-            write!(
-                text,
-                "ok {kind} {vertices} {base} {cells} {replacements} {taken}"
-            )?;
-            lists
-                .first
-                .show(text, vertices.saturating_mul(3), room.coordinates)?;
-            lists
-                .second
-                .show(text, cells.saturating_mul(kind), room.corners)?;
-            lists
-                .third
-                .show(text, replacements.saturating_mul(3), room.replacements)?;
-            lists.fourth.show(text, taken, room.taken)?;
+            let coordinates_read = lists
+                .coordinates
+                .show(vertices.saturating_mul(3), places.coordinates);
+            let corners_read = lists
+                .corners
+                .show(cells.saturating_mul(kind), places.corners);
+            let replacements_read = lists
+                .replacements
+                .show(replacements.saturating_mul(3), places.replacements);
+            let taken_read = lists.taken.show(taken, places.taken);
+            println!(rt;
+                "ok {kind} {vertices} {base} {cells} {replacements} {taken}{coordinates_read}{corners_read}{replacements_read}{taken_read}"
+            )
         }
         Err(fault) => {
-            let number = fault.refusal.number();
-            let place = fault.place;
-            write!(text, "{number} {place}")?;
-            lists.first.show_untouched(text, room.coordinates)?;
-            lists.second.show_untouched(text, room.corners)?;
-            lists.third.show_untouched(text, room.replacements)?;
-            lists.fourth.show_untouched(text, room.taken)?;
+            let refused = Refused(fault);
+            let coordinates = lists.coordinates.untouched(places.coordinates);
+            let corners = lists.corners.untouched(places.corners);
+            let replacements = lists.replacements.untouched(places.replacements);
+            let taken = lists.taken.untouched(places.taken);
+            println!(rt; "{refused}{coordinates}{corners}{replacements}{taken}")
         }
     }
-    Ok(())
-}
-
-// Carries out the next trial.
-fn try_next(
-    rt: &HostRuntime,
-    trials: &mut Trials<'_>,
-    line: &mut Vec<u8>,
-    lists: &mut Lists,
-) -> io::Result<()> {
-    let mut text = String::new(rt.alloc());
-    if trials.is_order() {
-        let places = trials.number();
-        trials.line(line)?;
-        try_order(&mut text, line.as_slice(), places, lists)?;
-    } else {
-        let coordinates = trials.number();
-        let corners = trials.number();
-        let replacements = trials.number();
-        let taken = trials.number();
-        let room = Room {
-            coordinates,
-            corners,
-            replacements,
-            taken,
-        };
-        trials.line(line)?;
-        try_hierarchy(&mut text, line.as_slice(), room, lists)?;
-    }
-    rt.println(text.as_str())
 }
 
 fn main(rt: HostRuntime) -> io::Result<()> {
@@ -145,12 +98,14 @@ fn main(rt: HostRuntime) -> io::Result<()> {
     rt.stdin().read_to_end(&mut input)?;
     let mut lists = Lists::new(rt.alloc())?;
     let mut line = Vec::new(rt.alloc());
-    let mut trials = Trials::over(input.as_slice());
-    for _ in 0..input.len() {
-        if trials.done() {
-            break;
+    for trial in Trials(input.as_slice()) {
+        trial.write_line(&mut line)?;
+        match trial.reading {
+            Reading::Order { places } => try_order(&rt, line.as_slice(), places, &mut lists)?,
+            Reading::Hierarchy { places } => {
+                try_hierarchy(&rt, line.as_slice(), places, &mut lists)?
+            }
         }
-        try_next(&rt, &mut trials, &mut line, &mut lists)?;
     }
     Ok(())
 }

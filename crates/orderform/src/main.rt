@@ -4,85 +4,74 @@
 
 use faults::{Fault, Refusal};
 use orderlines::check_order;
-use std::alloc::AllocError;
-use std::fmt::Write;
-use std::io;
 use std::io::Read;
+use std::{fmt, io};
 
-// Adds bytes to a text, so that a terminal shows each of them.
-fn quote(text: &mut String, bytes: &[u8]) -> Result<(), AllocError> {
-    for b in bytes {
-        match *b {
-            b'\t' => text.push_str("\\t")?,
-            b'\r' => text.push_str("\\r")?,
-            other => text.push(char::from(other))?,
+// Bytes as a terminal shows each of them.
+#[derive(Clone, Copy)]
+struct Quoted<'a>(&'a [u8]);
+
+impl fmt::Display for Quoted<'_> {
+    fn fmt<W: fmt::Write>(&self, f: &mut fmt::Formatter<W>) -> fmt::Result {
+        for b in self.0 {
+            match *b {
+                b'\t' => f.write_str("\\t")?,
+                b'\r' => f.write_str("\\r")?,
+                other => f.write_char(char::from(other))?,
+            }
         }
-    }
-    Ok(())
-}
-
-// Adds the beginning of a line that a fault leaves standing.
-fn quote_before(text: &mut String, line: &[u8], fault: Fault) -> Result<(), AllocError> {
-    match line.get(0..fault.place) {
-        Some(before) => quote(text, before),
-        None => Ok(()),
+        Ok(())
     }
 }
 
-// Adds what is wrong with a line.
-fn explain(text: &mut String, line: &[u8], fault: Fault) -> io::Result<()> {
-    let number = fault.refusal.number();
-    let place = fault.place;
-    write!(text, "refused by rule {number}, ")?;
-    match fault.refusal {
-        Refusal::InputTooLong => text.push_str("it has more than 65,536 bytes")?,
-        Refusal::NumberTooFar => {
-            write!(
-                text,
-                "a number beyond 999,999,999 follows its first {place} bytes: "
-            )?;
-            quote_before(text, line, fault)?;
-        }
-        _ => {
-            write!(
-                text,
-                "it makes sense as an order only up to its first {place} bytes: "
-            )?;
-            quote_before(text, line, fault)?;
+// What is wrong with a line.
+#[derive(Clone, Copy)]
+struct Refused<'a> {
+    line: &'a [u8],
+    fault: Fault,
+}
+
+impl fmt::Display for Refused<'_> {
+    fn fmt<W: fmt::Write>(&self, f: &mut fmt::Formatter<W>) -> fmt::Result {
+        let number = u32::from(self.fault.refusal);
+        let place = self.fault.place;
+        let before = Quoted(self.line.get(..place).unwrap_or(&[]));
+        write!(f, "refused by rule {number}, ")?;
+        match self.fault.refusal {
+            Refusal::InputTooLong => write!(f, "it has more than 65,536 bytes"),
+            Refusal::NumberTooFar => write!(
+                f,
+                "a number beyond 999,999,999 follows its first {place} bytes: {before}"
+            ),
+            _ => write!(
+                f,
+                "it makes sense as an order only up to its first {place} bytes: {before}"
+            ),
         }
     }
-    Ok(())
 }
 
 // Says of one line whether it is well formed.
 fn judge(rt: &HostRuntime, number: usize, line: &[u8]) -> io::Result<()> {
-    let mut text = String::new(rt.alloc());
-    write!(text, "{number}: ")?;
     match check_order(line) {
-        Ok(count) => write!(text, "well formed; numbers: {count}")?,
-        Err(fault) => explain(&mut text, line, fault)?,
-    }
-    rt.println(text.as_str())
-}
-
-// Judges every line; the last may lack its line feed.
-fn judge_all(rt: &HostRuntime, input: &[u8]) -> io::Result<()> {
-    let mut number = 1usize;
-    let mut start = 0usize;
-    for (i, b) in input.iter().enumerate() {
-        if *b == b'\n' {
-            if let Some(line) = input.get(start..i) {
-                judge(rt, number, line)?;
-            }
-            number = number.saturating_add(1);
-            start = i.saturating_add(1);
+        Ok(count) => println!(rt; "{number}: well formed; numbers: {count}"),
+        Err(fault) => {
+            let refused = Refused { line, fault };
+            println!(rt; "{number}: {refused}")
         }
     }
-    match input.get(start..input.len()) {
-        Some([]) => Ok(()),
-        Some(last) => judge(rt, number, last),
-        None => Ok(()),
+}
+
+// Judges every line; a line feed at the end of the input begins no further one.
+fn judge_all(rt: &HostRuntime, input: &[u8]) -> io::Result<()> {
+    if input.is_empty() {
+        return Ok(());
     }
+    let lines = input.strip_suffix(b"\n").unwrap_or(input);
+    for (number, line) in (1usize..).zip(lines.split(|b| *b == b'\n')) {
+        judge(rt, number, line)?;
+    }
+    Ok(())
 }
 
 fn main(rt: HostRuntime) -> io::Result<()> {

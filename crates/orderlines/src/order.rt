@@ -4,7 +4,7 @@ ghost use Rattle.arrays.specs.Sink.{filling};
 ghost use Rattle.forms.specs.Line.{Misread};
 ghost use Rattle.orderlines.specs.Order.{order as order_form, OrderPassed, OrderChecked, OrderReading, OrderCheckedOnce, OrderReadOnce};
 
-use arrays::{Sink, keep_numbers};
+use arrays::{Number, Sink, keep_list};
 use faults::{Fault, Refusal};
 use scanner::begin;
 
@@ -18,7 +18,7 @@ fn pass_order(line: &[u8], sink: &mut Sink<'_>) -> Result<usize, Fault>
     ensures reads { MatchResult result (λ n. OrderPassed line.now n (filling sink.old) (filling sink.new)) (Misread order_form line.now) }
 {
     let mut scanner = begin(line)?;
-    let count = keep_numbers(&mut scanner, sink)?;
+    let count = keep_list(&mut scanner, &Number, sink)?;
     scanner.finish()?;
     Ok(count)
 }
@@ -27,13 +27,7 @@ fn pass_order(line: &[u8], sink: &mut Sink<'_>) -> Result<usize, Fault>
 pub fn check_order(line: &[u8]) -> Result<usize, Fault>
     ensures { OrderChecked line.now result }
 {
-    let mut none = [];
-    let mut nowhere = Sink {
-        places: &mut none,
-        used: 0,
-    };
-    let count = pass_order(line, &mut nowhere)?;
-    Ok(count)
+    pass_order(line, &mut Sink::over(&mut []))
 }
 
 // Whether so many values are too few or too many for so many places.
@@ -44,21 +38,15 @@ fn off_limits(count: usize, places: usize) -> bool
 }
 
 // Reads the values of an order line into the first places of a list, and answers how many they are.
+// stays: C hands such a list over, as a pointer and a length.
 pub fn read_order(line: &[u8], values: &mut [i32]) -> Result<usize, Fault>
     ensures { OrderReading line.now values.old result values.new }
 {
     let count = check_order(line)?;
     if off_limits(count, values.len()) {
-        return Err(Fault {
-            refusal: Refusal::CountOffLimits,
-            place: ORDER_VALUES,
-        });
+        return Err(Refusal::CountOffLimits.at(ORDER_VALUES));
     }
-    let mut sink = Sink {
-        places: values,
-        used: 0,
-    };
-    pass_order(line, &mut sink)
+    pass_order(line, &mut Sink::over(values))
 }
 
 // Checking a line comes to one thing only.

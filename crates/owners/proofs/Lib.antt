@@ -1,6 +1,3 @@
-pub mod Blanks
-pub mod Spans
-pub mod Making
-pub mod Ties
-pub mod Claiming
 pub mod Listing
+pub mod Making
+pub mod Claiming

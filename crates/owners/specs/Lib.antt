@@ -1,2 +1,3 @@
-pub mod Spans
+pub mod Parts
 pub mod Owners
+pub mod Claims

@@ -3,17 +3,17 @@
 #![tactic(auto)]
 
 mod blank;
-mod entries;
 mod makers;
+mod owners;
 mod part;
 mod parts;
 mod ranged;
-mod sizes;
 mod takers;
 
 pub use blank::Blank;
 pub use makers::list_makers;
+pub use owners::Owners;
 pub use part::Part;
-pub use parts::list_parts;
+pub use parts::Parts;
 pub use ranged::Ranged;
-pub use takers::list_takers;
+pub use takers::list_owners;

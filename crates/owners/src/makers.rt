@@ -1,27 +1,30 @@
 // The replacement that makes each cell.
-ghost use Rattle.std.specs.Prelude.{◌≡◌, vec_len};
-ghost use Rattle.owners.specs.Owners.{cells_made, Makers};
+ghost use Rattle.std.specs.Prelude.{◌≡◌, ℕ, slice_index_or, vec_len, None};
+ghost use Rattle.owners.specs.Owners.{cells_made, Makers, makers_in, takers_in};
 ghost use Rattle.rules.specs.Raw.{lists_of};
 
-use crate::entries::add_entries;
-use crate::sizes::base_count;
-use crate::{Blank, Ranged};
-use rules::count_at;
+use crate::{Blank, Owners, Ranged};
 
-// Lists the maker of each cell: 0 for a base cell, else the number of a replacement.
-pub fn list_makers(ranged: &Ranged<'_>, blank: Blank<u32, 16_384>) -> Vec<u32>
+// Lists the maker of each cell, and nobody as its taker.
+pub fn list_makers(ranged: &Ranged<'_>, blank: Blank<Owners, 16_384>) -> Vec<Owners>
     ensures len { vec_len result ≡ cells_made (lists_of ranged.now.tables) }
-    ensures ties { Makers (lists_of ranged.now.tables) result.items }
+    ensures makers { Makers (lists_of ranged.now.tables) (makers_in result.items) }
+    ensures free { (c : ℕ) → slice_index_or (takers_in result.items) c None ≡ None }
 {
-    let Blank { items: mut makers } = blank;
-    add_entries(&mut makers, 0, base_count(ranged));
-    for i in 0..ranged.tables.replacements.len() / 3 {
-        let maker = i as u32 + 1;
-        add_entries(
-            &mut makers,
-            maker,
-            count_at(ranged.tables.replacements, i, 2),
-        );
+    let Blank { items: mut owners } = blank;
+    let base = Owners {
+        maker: None,
+        taker: None,
+    };
+    owners.resize(ranged.base() as usize, base).unwrap();
+    for (n, part) in ranged.parts() {
+        let made = Owners {
+            maker: Some(n),
+            taker: None,
+        };
+        owners
+            .resize(owners.len() + part.makes as usize, made)
+            .unwrap();
     }
-    makers
+    owners
 }

@@ -1,32 +1,44 @@
-// The ranges of each replacement.
-ghost use Rattle.std.specs.Prelude.{◌≡◌};
-ghost use Rattle.owners.specs.Owners.{parts_of};
-ghost use Rattle.rules.specs.Raw.{lists_of};
+// Going through the replacements from the first to the last, each with its number and its ranges.
+ghost use Rattle.std.specs.Prelude.{◌≡◌, ◌+◌, ◌≤◌, length, sum_by, unsigned_abs};
+ghost use Rattle.std.specs.Iterator.{YieldsFirst, item_count};
+ghost use Rattle.owners.specs.Parts.{parts_from};
+ghost use Rattle.rules.specs.Records.{records_of};
 
-use crate::sizes::base_count;
-use crate::{Blank, Part, Ranged};
-use rules::count_at;
+use crate::Part;
+use kinds::ReplacementId;
+use rules::Records;
 
-// Lists the ranges of each replacement, from the first to the last.
-pub fn list_parts(ranged: &Ranged<'_>, blank: Blank<Part, 4096>) -> Vec<Part>
-    ensures { result.items ≡ parts_of (lists_of ranged.now.tables) }
-{
-    let Blank { items: mut parts } = blank;
-    let mut list: u32 = 0;
-    let mut first = base_count(ranged);
-    for i in 0..ranged.tables.replacements.len() / 3 {
-        let error = count_at(ranged.tables.replacements, i, 0);
-        let takes = count_at(ranged.tables.replacements, i, 1);
-        let makes = count_at(ranged.tables.replacements, i, 2);
-        parts.push_reserved(Part {
-            error,
-            list,
-            takes,
-            first,
-            makes,
-        });
-        list += takes;
-        first += makes;
+// The replacements that are left: their records, and how many replacements, taken numbers and cells come before them.
+#[derive(Debug, Drop)]
+pub struct Parts<'a> {
+    pub(crate) records: Records<'a>,
+    pub(crate) number: u32,
+    pub(crate) list: u32,
+    pub(crate) first: u32,
+    ghost few: { number + length (records_of records.left.now) ≤ 4096 },
+    ghost listed: { list + sum_by (λ r. unsigned_abs r.takes) (records_of records.left.now) ≤ 16384 },
+    ghost made: { first + sum_by (λ r. unsigned_abs r.makes) (records_of records.left.now) ≤ 16384 },
+}
+
+impl<'a> Iterator for Parts<'a> {
+    type Item = (ReplacementId, Part);
+
+    ghost next_gives = { YieldsFirst (λ p. parts_from p.number p.list p.first (records_of p.records.left.now)) };
+
+    ghost remaining = { item_count (λ p. parts_from p.number p.list p.first (records_of p.records.left.now)) };
+
+    fn next(&mut self) -> Option<(ReplacementId, Part)> {
+        let record = self.records.next()?;
+        let part = Part {
+            error: record.error.unsigned_abs(),
+            list: self.list,
+            takes: record.takes.unsigned_abs(),
+            first: self.first,
+            makes: record.makes.unsigned_abs(),
+        };
+        self.number += 1;
+        self.list += part.takes;
+        self.first += part.makes;
+        Some((ReplacementId(self.number), part))
     }
-    parts
 }

@@ -9,11 +9,11 @@ ghost use Rattle.rules.specs.Values.{Numbered};
 
 use rules::RawTables;
 
-#[derive(Clone, Copy)]
+mod methods;
+
+#[derive(Clone, Copy, Debug, PartialEq, Eq)]
 pub struct Ranged<'a> {
     pub tables: RawTables<'a>,
-    pub cells: usize,
-    ghost counted: { cells ≡ cells_made (lists_of tables) },
     ghost few: { replacements_in (lists_of tables) ≤ 4096 },
     ghost made: { cells_made (lists_of tables) ≤ 16384 },
     ghost short: { length tables.taken.now ≤ 16384 },

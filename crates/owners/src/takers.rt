@@ -1,83 +1,60 @@
 // The replacement that takes each cell, and the rule that no cell is taken twice.
-ghost use Rattle.std.specs.Prelude.{◌≡◌, ◌+◌, ◌<◌, ◌≤◌, length, replicate, vec_len, MatchResult};
-ghost use Rattle.faults.specs.declared.Refusal.TheVariants.{TakesTwice};
-ghost use Rattle.owners.specs.Owners.{cells_made, count_of, Takers};
-ghost use Rattle.owners.specs.Spans.{Ahead, reach, Spans};
+ghost use Rattle.std.specs.Prelude.{◌≡◌, ℕ, ◌+◌, true, length, slice_index_or, vec_len, None, MatchResult};
+ghost use Rattle.owners.specs.Owners.{cells_made, Makers, makers_in, part_of, Takers, takers_in};
+ghost use Rattle.owners.specs.Claims.{Noted, TakenTwice};
+ghost use Rattle.rules.specs.Cells.{replacement};
 ghost use Rattle.rules.specs.Rows.{replacements_in};
 ghost use Rattle.rules.specs.Links.{FreshKept};
-ghost use Rattle.rules.specs.Raw.{at, lists_of};
-ghost use Rattle.tables.specs.Judging.{Clear, First};
+ghost use Rattle.rules.specs.Raw.{lists_of};
+ghost use Rattle.tables.specs.Judging.{Clear};
 
-use crate::entries::add_entries;
-use crate::sizes::taken_at;
-use crate::{Blank, Ranged};
+use crate::makers::list_makers;
+use crate::{Blank, Owners, Part, Ranged};
 use faults::{Fault, Refusal};
-use rules::count_at;
+use kinds::ReplacementId;
 
-// A replacement, and where its list ends among the taken numbers.
-#[derive(Clone, Copy)]
-struct Taker {
-    number: usize,
-    end: usize,
-}
-
-// The replacement whose list has place j, where the place before it is in the list of `taker`.
-fn next_taker(ranged: &Ranged<'_>, taker: Taker, j: usize) -> Taker
-    requires known { taker.number ≤ replacements_in (lists_of ranged.now.tables) }
-    requires ends { taker.end ≡ reach 0 (count_of 1 ranged.now.tables.replacements.now) taker.number }
-    requires ahead { Ahead 0 (count_of 1 ranged.now.tables.replacements.now) taker.number j }
-    requires inside { j < length ranged.now.tables.taken.now }
-    ensures known { result.number ≤ replacements_in (lists_of ranged.now.tables) }
-    ensures ends { result.end ≡ reach 0 (count_of 1 ranged.now.tables.replacements.now) result.number }
-    ensures spans { Spans 0 (count_of 1 ranged.now.tables.replacements.now) result.number j }
+// Writes replacement n as the taker of each cell of its list, unless one is taken already.
+fn note_takers(
+    ranged: &Ranged<'_>,
+    n: ReplacementId,
+    part: Part,
+    owners: &mut [Owners],
+) -> Result<(), Fault>
+    requires is { replacement (lists_of ranged.now.tables) n.0 ≡ true }
+    requires ranges { part ≡ part_of (lists_of ranged.now.tables) n.0 }
+    requires sized { length owners.old ≡ cells_made (lists_of ranged.now.tables) }
+    requires noted { Noted (lists_of ranged.now.tables) part.list (takers_in owners.old) }
+    ensures makers { makers_in owners.new ≡ makers_in owners.old }
+    ensures takers { MatchResult result (λ _. Noted (lists_of ranged.now.tables) (part.list + part.takes) (takers_in owners.new)) (TakenTwice (lists_of ranged.now.tables)) }
 {
-    if j < taker.end {
-        return taker;
-    }
-    Taker {
-        number: taker.number + 1,
-        end: taker.end + count_at(ranged.tables.replacements, taker.number, 1) as usize,
-    }
-}
-
-// So many cells that nobody takes.
-fn untaken(blank: Blank<u32, 16_384>, count: usize) -> Vec<u32>
-    requires { count ≤ 16384 }
-    ensures items { result.items ≡ replicate count 0 }
-    ensures len { vec_len result ≡ count }
-{
-    let Blank { items: mut takers } = blank;
-    add_entries(&mut takers, 0, count as u32);
-    takers
-}
-
-// Writes the taker of each cell, unless a cell is taken twice.
-fn fill_takers(ranged: &Ranged<'_>, takers: &mut [u32]) -> Result<(), Fault>
-    requires sized { length takers.old ≡ cells_made (lists_of ranged.now.tables) }
-    requires zero { takers.old ≡ replicate (length takers.old) 0 }
-    ensures { MatchResult result (λ _. Clear 1 (replacements_in (lists_of ranged.now.tables) + 1) (FreshKept (lists_of ranged.now.tables)) × Takers (lists_of ranged.now.tables) takers.new) (λ f. (f.refusal ≡ TakesTwice) × First 1 (replacements_in (lists_of ranged.now.tables) + 1) (FreshKept (lists_of ranged.now.tables)) f.place) }
-{
-    let mut taker = Taker { number: 0, end: 0 };
-    for j in 0..ranged.tables.taken.len() {
-        taker = next_taker(ranged, taker, j);
-        let c = taken_at(ranged, j);
-        if takers[c] != 0 {
-            return Err(Fault {
-                refusal: Refusal::TakesTwice,
-                place: taker.number,
-            });
+    for z in part.taken(ranged.tables) {
+        let owner = &mut owners[z.unsigned_abs() as usize];
+        match owner.taker {
+            Some(_) => return Err(Refusal::TakesTwice.at(n.0 as usize)),
+            None => owner.taker = Some(n),
         }
-        takers[c] = taker.number as u32;
     }
     Ok(())
 }
 
-// Lists the taker of each cell, 0 where there is none, unless a cell is taken twice: then the lowest replacement that takes a taken cell is
-// told.
-pub fn list_takers(ranged: &Ranged<'_>, blank: Blank<u32, 16_384>) -> Result<Vec<u32>, Fault>
-    ensures { MatchResult result (λ v. (vec_len v ≡ cells_made (lists_of ranged.now.tables)) × Clear 1 (replacements_in (lists_of ranged.now.tables) + 1) (FreshKept (lists_of ranged.now.tables)) × Takers (lists_of ranged.now.tables) v.items) (λ f. (f.refusal ≡ TakesTwice) × First 1 (replacements_in (lists_of ranged.now.tables) + 1) (FreshKept (lists_of ranged.now.tables)) f.place) }
+// Writes the taker of each cell, unless a cell is taken twice.
+fn fill_takers(ranged: &Ranged<'_>, owners: &mut [Owners]) -> Result<(), Fault>
+    requires sized { length owners.old ≡ cells_made (lists_of ranged.now.tables) }
+    requires free { (c : ℕ) → slice_index_or (takers_in owners.old) c None ≡ None }
+    ensures makers { makers_in owners.new ≡ makers_in owners.old }
+    ensures takers { MatchResult result (λ _. Clear 1 (replacements_in (lists_of ranged.now.tables) + 1) (FreshKept (lists_of ranged.now.tables)) × Takers (lists_of ranged.now.tables) (takers_in owners.new)) (TakenTwice (lists_of ranged.now.tables)) }
 {
-    let mut takers = untaken(blank, ranged.cells);
-    fill_takers(ranged, takers.as_mut_slice())?;
-    Ok(takers)
+    for (n, part) in ranged.parts() {
+        note_takers(ranged, n, part, owners)?;
+    }
+    Ok(())
+}
+
+// Lists the maker and the taker of each cell, unless a cell is taken twice: then the lowest replacement that takes a taken cell is told.
+pub fn list_owners(ranged: &Ranged<'_>, blank: Blank<Owners, 16_384>) -> Result<Vec<Owners>, Fault>
+    ensures { MatchResult result (λ v. (vec_len v ≡ cells_made (lists_of ranged.now.tables)) × Clear 1 (replacements_in (lists_of ranged.now.tables) + 1) (FreshKept (lists_of ranged.now.tables)) × Makers (lists_of ranged.now.tables) (makers_in v.items) × Takers (lists_of ranged.now.tables) (takers_in v.items)) (TakenTwice (lists_of ranged.now.tables)) }
+{
+    let mut owners = list_makers(ranged, blank);
+    fill_takers(ranged, owners.as_mut_slice())?;
+    Ok(owners)
 }

@@ -1,14 +1,9 @@
--- The rim of cells, and when two lists of cells have the same. Assumes nothing.
+-- When two lists of cells have the same rim, and that there is room to judge it. Assumes nothing.
 use Rattle.std.specs.Prelude.{◌≡◌, ℕ, ◌+◌, ◌/◌, ◌≤◌, List, length, ℤ}
-use Rattle.std.specs.List.{flat_map, AllByRecursion}
-use Rattle.kinds.specs.declared.kind.Signed.{Signed}
+use Rattle.std.specs.List.{AllByRecursion}
 use Rattle.kinds.specs.Shapes.{Shape, tally}
-use Rattle.rules.specs.Raw.{cell}
+use Rattle.rules.specs.Cells.{rims}
 use Rattle.rules.specs.Values.{Numbered}
-
--- the signed facets of the cells of a list, over a table of corners
-abbrev pub rims : {F P : Type 0} → Shape F P → List ℤ → List ℕ → List (Signed F)
-rims k corners cs = flat_map (λ c. k.rim (cell k.arity corners c)) cs
 
 -- each facet has the same signed count over the cells of both lists
 abbrev pub SameRim : {F P : Type 0} → Shape F P → List ℤ → List ℕ → List ℕ → Type 0

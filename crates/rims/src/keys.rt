@@ -1,30 +1,46 @@
-// Lists of keys, and comparing them.
-ghost use Rattle.std.specs.Prelude.{◌≡◌, ◌<◌, [], ◌∷◌, vec_len, vec_capacity, MatchBool};
-ghost use Rattle.rims.specs.Keys.{Noted, SameNumbers};
+// Noting facets by their keys, and comparing the keys of the two signs.
+ghost use Rattle.std.specs.Prelude.{◌≡◌, ◌+◌, ◌<◌, [], ◌∷◌, vec_items, MatchBool};
+ghost use Rattle.rims.specs.Keys.{held, Noted, SameNumbers};
 
+use crate::RimMemory;
 use kinds::{Kind, Signed};
+use std::mem::swap;
 
-// Whether two lists have the same numbers, each as often. It sorts them.
-pub(crate) fn same_numbers(xs: &mut Vec<u64>, ys: &mut Vec<u64>) -> bool
-    ensures same { MatchBool result (SameNumbers xs.old.items ys.old.items) (SameNumbers xs.old.items ys.old.items → ⊥) }
-    ensures xs_cap { vec_capacity xs.new ≡ vec_capacity xs.old }
-    ensures ys_cap { vec_capacity ys.new ≡ vec_capacity ys.old }
-{
-    xs.sort_unstable();
-    ys.sort_unstable();
-    xs.as_slice() == ys.as_slice()
-}
+impl RimMemory {
+    // Forgets all keys.
+    pub(crate) fn clear(&mut self)
+        ensures { (vec_items self.new.plus ≡ []) × (vec_items self.new.minus ≡ []) × (held self.new ≡ 0) × (self.new.room ≡ self.old.room) }
+    {
+        self.plus.clear();
+        self.minus.clear();
+    }
 
-// Notes a facet: one with a plus in the first list, one with a minus in the second.
-pub(crate) fn note<K: Kind>(facet: Signed<K::Facet>, plus: &mut Vec<u64>, minus: &mut Vec<u64>)
-    requires plus_room { vec_len plus.old < vec_capacity plus.old }
-    requires minus_room { vec_len minus.old < vec_capacity minus.old }
-    ensures { Noted K.Kind.key K.Kind.real plus.old minus.old plus.new minus.new (facet ∷ []) 1 }
-{
-    let key = K::sort_key(facet.facet);
-    if facet.plus {
-        plus.push_reserved(key);
-    } else {
-        minus.push_reserved(key);
+    // Counts plus what it counted minus, and the other way round.
+    pub(crate) fn turn(&mut self)
+        ensures { (self.new.plus ≡ self.old.minus) × (self.new.minus ≡ self.old.plus) × (self.new.room ≡ self.old.room) }
+    {
+        swap(&mut self.plus, &mut self.minus);
+    }
+
+    // Notes a facet.
+    pub(crate) fn note<K: Kind>(&mut self, facet: Signed<K::Facet>)
+        requires { held self.old < self.old.room }
+        ensures noted { Noted K.Kind.key K.Kind.real self.old self.new (facet ∷ []) }
+        ensures count { held self.new ≡ held self.old + 1 }
+    {
+        match facet {
+            Signed::Plus(facet) => self.plus.push_reserved(K::sort_key(facet)),
+            Signed::Minus(facet) => self.minus.push_reserved(K::sort_key(facet)),
+        }
+    }
+
+    // Whether the keys of both signs are the same, each as often. It sorts them.
+    pub(crate) fn is_balanced(&mut self) -> bool
+        ensures same { MatchBool result (SameNumbers (vec_items self.old.plus) (vec_items self.old.minus)) (SameNumbers (vec_items self.old.plus) (vec_items self.old.minus) → ⊥) }
+        ensures room { self.new.room ≡ self.old.room }
+    {
+        self.plus.sort_unstable();
+        self.minus.sort_unstable();
+        self.plus.as_slice() == self.minus.as_slice()
     }
 }

@@ -1,8 +1,8 @@
-pub mod Clamped
 pub mod Growing
 pub mod Sums
+pub mod RecordLists
+pub mod Elements
 pub mod Ranges
 pub mod Cells
 pub mod Links
-pub mod Judgements
 pub mod Rows

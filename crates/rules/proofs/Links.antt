@@ -1,7 +1,7 @@
 -- Which cells replacements take: earlier ones, each of them once, and each by one replacement at most. Assumes nothing.
 use Rattle.std.proofs.Common.{◌≡◌, ℕ, ◌+◌, ◌-◌, ◌<◌, ◌≤◌, true, eqb, length, get_or, drop, ℤ, pos, nat_abs, sym, ◌∙◌, ⊎_elim, arith}
 use Rattle.std.specs.List.{AllByRecursion}
-use Rattle.std.proofs.ByRecursion.{All-get_or, All-map, All-weaker}
+use Rattle.std.proofs.lemmas.List.Elements.{All-get_or, All-map, All-weaker, All-from_recursion, recursion_from_All}
 use Rattle.std.proofs.lemmas.List.{length-map, length-take, get_or-map, get_or-take, get_or-drop}
 use Rattle.std.proofs.lemmas.Int.{ints}
 use Rattle.std.proofs.lemmas.Bool.{eqb-true, and_parts, cases_order}
@@ -46,7 +46,7 @@ taken_place : (t : Tables) (n c q : ℕ) → 1 ≤ n → n ≤ replacements_in t
 taken_place t n c q low high earlier lt e =
     let inside : q < length (taken_by t n) = omega (arith, length-map (taken_by t n) nat_abs) in
     let z : ℤ = get_or (taken_by t n) q (pos 0) in
-    let is = natural_is z c (first_made t n) (e ∙ get_or-map nat_abs (taken_by t n) q (pos 0) 0 inside) (All-get_or (Numbered (first_made t n)) (taken_by t n) q (pos 0) inside earlier) in
+    let is = natural_is z c (first_made t n) (e ∙ get_or-map nat_abs (taken_by t n) q (pos 0) 0 inside) (All-get_or (Numbered (first_made t n)) (taken_by t n) q (pos 0) inside (All-from_recursion (Numbered (first_made t n)) (taken_by t n) earlier)) in
     record {
       least = low;
       most = high;
@@ -71,8 +71,10 @@ module _ (t : Tables) (earlier : Clear 1 (replacements_in t + 1) (EarlierKept t)
   -- a taken cell comes before what its taker makes
   pub taken_before : (n : ℕ) → 1 ≤ n → n ≤ replacements_in t → AllByRecursion (λ c. c < first_made t n) (taken_cells t n)
   taken_before n low high =
-      All-map (λ c. c < first_made t n) nat_abs (taken_by t n)
-      (All-weaker (Numbered (first_made t n)) (λ z. nat_abs z < first_made t n) (λ z h. omega (arith, ints)) (taken_by t n) (earlier n low (omega arith)))
+      let numbered = All-from_recursion (Numbered (first_made t n)) (taken_by t n) (earlier n low (omega arith)) in
+      recursion_from_All (λ c. c < first_made t n) (taken_cells t n)
+      (All-map (λ c. c < first_made t n) nat_abs (taken_by t n)
+      (All-weaker (Numbered (first_made t n)) (λ z. nat_abs z < first_made t n) (λ z h. omega (arith, ints)) (taken_by t n) numbered))
 
   module _ (fresh : Clear 1 (replacements_in t + 1) (FreshKept t)) where
     takers_apart : (m n c : ℕ) → takes t m c ≡ true → takes t n c ≡ true → m < n → ⊥

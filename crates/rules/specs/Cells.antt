@@ -1,6 +1,6 @@
 -- The cells of raw tables, by their numbers: the base cells, and the cells that each replacement makes and takes. Replacements are counted
 -- from 1. Assumes nothing.
-use Rattle.std.specs.Prelude.{ℕ, ◌-◌, Bool, false, ◌&&◌, ◌||◌, List, [], ◌∷◌, map, nat_eq, nat_le, unsigned_abs}
+use Rattle.std.specs.Prelude.{ℕ, ◌-◌, Bool, false, ◌&&◌, ◌||◌, List, [], ◌∷◌, map, ℤ, nat_eq, nat_le, unsigned_abs}
 use Rattle.std.specs.List.{range_with_len, flat_map}
 use Rattle.kinds.specs.declared.kind.Signed.{Signed}
 use Rattle.kinds.specs.Shapes.{Shape}
@@ -36,6 +36,10 @@ makes t n c = replacement t n && some (nat_eq c) (made_cells t n)
 abbrev pub takes : Tables → ℕ → ℕ → Bool
 takes t n c = replacement t n && some (nat_eq c) (taken_cells t n)
 
--- the signed facets of the cells of a list, one cell after the other
+-- the signed facets of the cells of a list, one cell after the other, over a table of corners
+abbrev pub rims : {F P : Type 0} → Shape F P → List ℤ → List ℕ → List (Signed F)
+rims k corners cs = flat_map (λ c. k.rim (cell k.arity corners c)) cs
+
+-- the same over raw tables
 abbrev pub facets_of : {F P : Type 0} → Shape F P → Tables → List ℕ → List (Signed F)
-facets_of k t cs = flat_map (λ c. k.rim (cell k.arity t.corners c)) cs
+facets_of k t cs = rims k t.corners cs

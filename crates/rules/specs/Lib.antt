@@ -1,4 +1,5 @@
 pub mod Raw
+pub mod Records
 pub mod Values
 pub mod Counts
 pub mod Ranges

@@ -1,32 +1,28 @@
-// The rule of the counts on raw tables: whole vertices, cells and records, within limits, whose counts add up.
-ghost use Rattle.std.specs.Prelude.{◌≡◌, ℕ, ◌*◌, ◌<◌, ◌≤◌, length, ℤ, pos, MatchBool, MatchOption, MatchResult, ◌≢◌};
-ghost use Rattle.faults.specs.declared.Refusal.TheVariants.{CountOffLimits};
+// The rule of the counts on raw tables: whole vertices, cells and records, within limits, whose counts add up, and places for them.
+ghost use Rattle.std.specs.Prelude.{◌≡◌, ℕ, ◌*◌, ◌%◌, ℤ, map, MatchBool, MatchOption, ◌≢◌};
 ghost use Rattle.rules.specs.Counts.{AddsUp};
 ghost use Rattle.rules.specs.Raw.{lists_of};
-ghost use Rattle.tables.specs.Judging.{Clear, First};
-ghost use Rattle.tables.specs.Tables.{column as column_of, own_places, VerticesCounted, CellsCounted, ReplacementsCounted, TakenCounted, Counted};
+ghost use Rattle.rules.specs.Records.{records_of};
+ghost use Rattle.rules.specs.declared.record.Record.{Record};
+ghost use Rattle.tables.specs.Tables.{counts_made, counts_taken, VerticesCounted, CellsCounted, ReplacementsCounted, TakenCounted, Counted};
 
-use crate::RawTables;
-use crate::values::field;
-use faults::Fault;
-use tables::{MOST_CELLS, MOST_REPLACEMENTS, MOST_VERTICES, off_limits};
+use crate::{RawTables, Record, Records};
+use kinds::Kind;
+use std::marker::PhantomData;
+use tables::{MOST_CELLS, MOST_REPLACEMENTS, MOST_VERTICES, Places, Rule};
 
-// What the counts of a column add up to, from a start on, unless one is below 0 or the sum is above the limit of cells and of taken
-// numbers.
-fn add_up(replacements: &[i32], column: usize, start: usize) -> Option<usize>
-    requires { column < 3 }
-    ensures { MatchOption result ((n : ℕ) → AddsUp (column_of column replacements.now) start n → ⊥) (AddsUp (column_of column replacements.now) start) }
+// What the counts that records have add up to, from a start on, unless one is below 0 or the sum is above the limit of cells and of
+// taken numbers.
+fn add_up<F: Fn(Record) -> i32>(records: Records<'_>, count_of: F, start: usize) -> Option<usize>
+    requires { F.IsAlwaysCallable count_of }
+    ensures { (counts : Record → ℤ) → ((r : Record) (z : ℤ) → F.post count_of r z → z ≡ counts r) → MatchOption result ((n : ℕ) → AddsUp (map counts (records_of records.entry.left.now)) start n → ⊥) (AddsUp (map counts (records_of records.entry.left.now)) start) }
 {
     if start > MOST_CELLS {
         return None;
     }
     let mut sum = start;
-    for i in 0..replacements.len() / 3 {
-        let count = field(replacements, i, column);
-        if count < 0 {
-            return None;
-        }
-        sum += count as usize;
+    for record in records {
+        sum += usize::try_from(count_of(record)).ok()?;
         if sum > MOST_CELLS {
             return None;
         }
@@ -34,85 +30,102 @@ fn add_up(replacements: &[i32], column: usize, start: usize) -> Option<usize>
     Some(sum)
 }
 
-// How many records of three numbers there are, if they are whole.
-fn whole_threes(length: usize) -> Option<usize>
-    ensures { MatchOption result ((n : ℕ) → length ≢ 3 * n) (λ n. length ≡ 3 * n) }
-{
-    if length % 3 == 0 {
-        Some(length / 3)
-    } else {
-        None
+impl<'a> RawTables<'a> {
+    // How many cells the counts come to, of which so many are base cells.
+    fn cells_by_counts(&self, base: usize) -> Option<usize>
+        ensures { MatchOption result ((n : ℕ) → AddsUp (counts_made (lists_of self.now).replacements) base n → ⊥) (AddsUp (counts_made (lists_of self.now).replacements) base) }
+    {
+        add_up(self.records(), |record| record.makes, base)
+    }
+
+    // How many taken numbers the counts come to.
+    fn taken_by_counts(&self) -> Option<usize>
+        ensures { MatchOption result ((n : ℕ) → AddsUp (counts_taken (lists_of self.now).replacements) 0 n → ⊥) (AddsUp (counts_taken (lists_of self.now).replacements) 0) }
+    {
+        add_up(self.records(), |record| record.takes, 0)
     }
 }
 
-// Whether there are 1 to 4,096 whole vertices.
-pub(crate) fn vertices_counted(tables: &RawTables<'_>) -> bool
-    ensures { MatchBool result (VerticesCounted (lists_of tables.now) (own_places (lists_of tables.now))) (VerticesCounted (lists_of tables.now) (own_places (lists_of tables.now)) → ⊥) }
+// How many records of three numbers there are, if they are whole.
+fn whole_threes(length: usize) -> Option<usize>
+    ensures { MatchOption result (length % 3 ≢ 0) (λ n. length ≡ 3 * n) }
 {
-    match whole_threes(tables.coordinates.len()) {
-        Some(count) => count >= 1 && count <= MOST_VERTICES,
-        None => false,
-    }
+    (length % 3 == 0).then_some(length / 3)
 }
 
 // Whether so many cells of `width` corners make up a table of corners.
 fn make_up(width: usize, cells: usize, corners: usize) -> bool
     ensures { MatchBool result (corners ≡ width * cells) (corners ≢ width * cells) }
 {
-    match width.checked_mul(cells) {
-        Some(all) => corners == all,
-        None => false,
+    width.checked_mul(cells) == Some(corners)
+}
+
+// Raw tables of a kind of cell, and the places that their entries are to have.
+// stays: derived equality would ask that the kind itself can be compared.
+#[derive(Clone, Copy)]
+pub(crate) struct Counts<'a, K: Kind> {
+    pub(crate) kind: PhantomData<K>,
+    pub(crate) tables: RawTables<'a>,
+    pub(crate) places: Places,
+}
+
+impl<'a, K: Kind> Counts<'a, K> {
+    // Whether there are 1 to 4,096 whole vertices, and places for them.
+    fn vertices_counted(&self) -> bool
+        ensures { MatchBool result (VerticesCounted (lists_of self.now.tables) self.now.places) (VerticesCounted (lists_of self.now.tables) self.now.places → ⊥) }
+    {
+        let coordinates = self.tables.coordinates.len();
+        whole_threes(coordinates).is_some_and(|count| (1..=MOST_VERTICES).contains(&count))
+            && coordinates <= self.places.coordinates
+    }
+
+    // Whether there are at most 16,384 whole cells, at least one of them a base cell, which the base and the replacements make, and
+    // places for their corners.
+    fn cells_counted(&self) -> bool
+        ensures { MatchBool result (CellsCounted K.Kind.shape.arity (lists_of self.now.tables) self.now.places) (CellsCounted K.Kind.shape.arity (lists_of self.now.tables) self.now.places → ⊥) }
+    {
+        if self.tables.base < 1 {
+            return false;
+        }
+        let corners = self.tables.corners.len();
+        match self.tables.cells_by_counts(self.tables.base as usize) {
+            Some(cells) => make_up(K::CORNERS, cells, corners) && corners <= self.places.corners,
+            None => false,
+        }
+    }
+
+    // Whether there are at most 4,096 whole records of replacements, and places for them.
+    fn replacements_counted(&self) -> bool
+        ensures { MatchBool result (ReplacementsCounted (lists_of self.now.tables) self.now.places) (ReplacementsCounted (lists_of self.now.tables) self.now.places → ⊥) }
+    {
+        let replacements = self.tables.replacements.len();
+        whole_threes(replacements).is_some_and(|count| count <= MOST_REPLACEMENTS)
+            && replacements <= self.places.replacements
+    }
+
+    // Whether there are at most 16,384 taken numbers, which the replacements take, and places for them.
+    fn taken_counted(&self) -> bool
+        ensures { MatchBool result (TakenCounted (lists_of self.now.tables) self.now.places) (TakenCounted (lists_of self.now.tables) self.now.places → ⊥) }
+    {
+        let taken = self.tables.taken.len();
+        match self.tables.taken_by_counts() {
+            Some(count) => count == taken && taken <= self.places.taken,
+            None => false,
+        }
     }
 }
 
-// Whether there are at most 16,384 whole cells, at least one of them a base cell, which the base and the replacements make.
-pub(crate) fn cells_counted(width: usize, tables: &RawTables<'_>) -> bool
-    ensures { MatchBool result (CellsCounted width (lists_of tables.now) (own_places (lists_of tables.now))) (CellsCounted width (lists_of tables.now) (own_places (lists_of tables.now)) → ⊥) }
-{
-    if tables.base < 1 {
-        return false;
-    }
-    match add_up(tables.replacements, 2, tables.base as usize) {
-        Some(cells) => make_up(width, cells, tables.corners.len()),
-        None => false,
-    }
-}
+impl<'a, K: Kind> Rule for Counts<'a, K> {
+    ghost kept = { λ s q. Counted K.Kind.shape.arity (lists_of s.tables) s.places q };
 
-// Whether there are at most 4,096 whole records of replacements.
-pub(crate) fn replacements_counted(tables: &RawTables<'_>) -> bool
-    ensures { MatchBool result (ReplacementsCounted (lists_of tables.now) (own_places (lists_of tables.now))) (ReplacementsCounted (lists_of tables.now) (own_places (lists_of tables.now)) → ⊥) }
-{
-    match whole_threes(tables.replacements.len()) {
-        Some(count) => count <= MOST_REPLACEMENTS,
-        None => false,
+    fn holds(&self, place: usize) -> bool {
+        // stays: the four counts are told by these places, so a `match` on them is what the rule says; closures in a table would need the same places.
+        match place {
+            0 => self.vertices_counted(),
+            1 => self.cells_counted(),
+            2 => self.replacements_counted(),
+            3 => self.taken_counted(),
+            _ => true,
+        }
     }
-}
-
-// Whether there are at most 16,384 taken numbers, which the replacements take.
-pub(crate) fn taken_counted(tables: &RawTables<'_>) -> bool
-    ensures { MatchBool result (TakenCounted (lists_of tables.now) (own_places (lists_of tables.now))) (TakenCounted (lists_of tables.now) (own_places (lists_of tables.now)) → ⊥) }
-{
-    match add_up(tables.replacements, 1, 0) {
-        Some(count) => count == tables.taken.len(),
-        None => false,
-    }
-}
-
-// Judges the counts of raw tables, where cells have `width` corners.
-pub(crate) fn judge_counts(width: usize, tables: &RawTables<'_>) -> Result<(), Fault>
-    ensures { MatchResult result (λ _. Clear 0 4 (Counted width (lists_of tables.now) (own_places (lists_of tables.now)))) (λ f. (f.refusal ≡ CountOffLimits) × First 0 4 (Counted width (lists_of tables.now) (own_places (lists_of tables.now))) f.place) }
-{
-    if !vertices_counted(tables) {
-        return Err(off_limits(0));
-    }
-    if !cells_counted(width, tables) {
-        return Err(off_limits(1));
-    }
-    if !replacements_counted(tables) {
-        return Err(off_limits(2));
-    }
-    if !taken_counted(tables) {
-        return Err(off_limits(3));
-    }
-    Ok(())
 }

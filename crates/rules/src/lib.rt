@@ -3,89 +3,77 @@
 // No call allocates.
 #![tactic(auto)]
 
-ghost use Rattle.kinds.specs.Shapes.{shape};
-ghost use Rattle.rules.specs.Hierarchies.{value_rows, PlainJudged, PlainJudgedOnce};
+ghost use Rattle.rules.specs.Hierarchies.{PlainJudged};
 ghost use Rattle.rules.specs.Raw.{lists_of};
-ghost use Rattle.rules.specs.Rows.{Judged, JudgedOnce};
-ghost use Rattle.std.specs.Prelude.{MatchResult};
-ghost use Rattle.tables.specs.Judging.{Lawful, Refused};
+ghost use Rattle.rules.specs.Rows.{value_rows, Judged, JudgedOnce, PlacedJudgedOnce};
+ghost use Rattle.tables.specs.Judging.{Outcome};
 
-use counts::judge_counts;
+use counts::Counts;
 use earlier::judge_earlier;
 use faults::{Fault, Refusal};
 use kinds::Kind;
-use placed::judge_placed_counts;
-use rule::judge;
 use soundness::Soundness;
 use std::marker::PhantomData;
-use tables::Places;
+use tables::{Places, judge};
 use values::{Coordinates, Corners, Errors, Growth};
 
 mod counts;
 mod earlier;
-mod placed;
+mod lists;
 mod raw;
-mod rule;
+mod record;
 mod soundness;
 mod values;
 
-pub use earlier::{count_at, stretch};
+pub use lists::{cell_at, stretch};
 pub use raw::RawTables;
-pub use values::{all_numbered, cell_at};
+pub use record::{Record, Records};
+pub use values::all_numbered;
 
 // Judges all but the counts of raw tables.
 fn judge_values<K: Kind>(tables: RawTables<'_>) -> Result<(), Fault>
-    ensures { MatchResult result (λ _. Lawful (value_rows K.Kind.arity K.Kind.sound (lists_of tables.entry))) (Refused (value_rows K.Kind.arity K.Kind.sound (lists_of tables.entry))) }
+    ensures { Outcome (value_rows K.Kind.shape.arity K.Kind.shape.sound (lists_of tables.entry)) result }
 {
-    let width = K::corner_count();
     let vertices = tables.coordinates.len() / 3;
-    let cells = tables.corners.len() / width;
+    let cells = tables.corners.len() / K::CORNERS;
     let past = tables.replacements.len() / 3 + 1;
+    let kind = PhantomData::<K>;
     judge(
-        &Coordinates { tables },
+        &Coordinates(tables),
         Refusal::CoordinateOffRange,
         0,
         vertices,
     )?;
-    judge(&Errors { tables }, Refusal::ErrorOffRange, 1, past)?;
-    judge(&Corners { width, tables }, Refusal::NoSuchVertex, 0, cells)?;
-    judge(
-        &Soundness::<K> {
-            kind: PhantomData,
-            width,
-            tables,
-        },
-        Refusal::CellNotSound,
-        0,
-        cells,
-    )?;
-    judge(&Growth { tables }, Refusal::NoRefinement, 1, past)?;
-    judge_earlier(tables, past)
+    judge(&Errors(tables), Refusal::ErrorOffRange, 1, past)?;
+    judge(&Corners { kind, tables }, Refusal::NoSuchVertex, 0, cells)?;
+    judge(&Soundness { kind, tables }, Refusal::CellNotSound, 0, cells)?;
+    judge(&Growth(tables), Refusal::NoRefinement, 1, past)?;
+    judge_earlier(tables)
 }
 
 // Judges the counts, coordinates, errors, corners, soundness and growth of raw tables of a kind of cell, and that replacements take
 // earlier cells only.
 pub fn judge_tables<K: Kind>(tables: RawTables<'_>) -> Result<(), Fault>
-    ensures { Judged K.Kind.arity K.Kind.sound (lists_of tables.entry) result }
+    ensures { Judged K.Kind.shape.arity K.Kind.shape.sound (lists_of tables.entry) result }
 {
-    judge_counts(K::corner_count(), &tables)?;
-    judge_values::<K>(tables)
+    judge_placed_tables::<K>(tables, tables.own_places())
 }
 
 // Judges raw tables in the same way, and that there are places for their entries, so many for each table.
 pub fn judge_placed_tables<K: Kind>(tables: RawTables<'_>, places: Places) -> Result<(), Fault>
-    ensures { PlainJudged (shape K.Kind.arity K.Kind.rim K.Kind.sound K.Kind.covers K.Kind.meets K.Kind.alike) (lists_of tables.entry) places result }
+    ensures { PlainJudged K.Kind.shape (lists_of tables.entry) places result }
 {
-    judge_placed_counts(K::corner_count(), &tables, &places)?;
+    let counts = Counts::<K> {
+        kind: PhantomData,
+        tables,
+        places,
+    };
+    judge(&counts, Refusal::CountOffLimits, 0, 4)?;
     judge_values::<K>(tables)
 }
 
-// Judging comes to one thing only.
+// Judging comes to one thing only, for any number of corners and any soundness, with places of the tables' own and with given ones.
 pub fn tables_are_judged_once()
-    ensures { JudgedOnce }
-{}
-
-// Judging with places comes to one thing only, too.
-pub fn placed_tables_are_judged_once<K: Kind>()
-    ensures { PlainJudgedOnce (shape K.Kind.arity K.Kind.rim K.Kind.sound K.Kind.covers K.Kind.meets K.Kind.alike) }
+    ensures own { JudgedOnce }
+    ensures placed { PlacedJudgedOnce }
 {}

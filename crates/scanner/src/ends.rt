@@ -1,5 +1,5 @@
 // The two ends of a line: where reading begins, and that nothing is left.
-ghost use Rattle.std.specs.Prelude.{◌<◌, ◌≤◌, ◌⊎◌, length, MatchBool, MatchResult};
+ghost use Rattle.std.specs.Prelude.{MatchResult};
 ghost use Rattle.forms.specs.Line.{Overlong};
 ghost use Rattle.scanner.specs.Scanner.{Begun, Finished, Unfinished};
 
@@ -18,31 +18,18 @@ impl Scanner<'_> {
             return Err(self.wrong());
         }
         match self.far {
-            Some(place) => Err(Fault {
-                refusal: Refusal::NumberTooFar,
-                place,
-            }),
+            Some(place) => Err(Refusal::NumberTooFar.at(place)),
             None => Ok(()),
         }
     }
-}
-
-// Whether a line is too long.
-fn too_long(bytes: &[u8]) -> bool
-    ensures { MatchBool result (65536 < length bytes.now) (length bytes.now ≤ 65536) }
-{
-    bytes.len() > LONGEST
 }
 
 // A scanner of the line, at its first byte that is no white space.
 pub fn begin<'a>(bytes: &'a [u8]) -> Result<Scanner<'a>, Fault>
     ensures { MatchResult result (λ s. Begun bytes.now s) (λ f. Overlong bytes.now f) }
 {
-    if too_long(bytes) {
-        return Err(Fault {
-            refusal: Refusal::InputTooLong,
-            place: LONGEST,
-        });
+    if bytes.len() > LONGEST {
+        return Err(Refusal::InputTooLong.at(LONGEST));
     }
     let mut scanner = Scanner {
         bytes,

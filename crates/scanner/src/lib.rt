@@ -4,16 +4,20 @@
 // not to be used again. No call allocates.
 #![tactic(auto)]
 
+ghost use Rattle.std.specs.Prelude.{◌≤◌, length};
+
 mod ends;
 mod marks;
 mod numbers;
 
 pub use ends::begin;
 
-// A line, how far it is read, and where its first number beyond the range stands.
+// A line of at most 65,536 bytes, how far it is read, and where its first number beyond the range stands.
+// stays: the place of a refusal is how far the line is read, so the index stays; a slice that shrinks would need it beside it as well.
 #[derive(Drop)]
 pub struct Scanner<'a> {
     bytes: &'a [u8],
     at: usize,
     far: Option<usize>,
+    ghost short: { length bytes.now ≤ 65536 },
 }

@@ -14,47 +14,35 @@ impl Scanner<'_> {
         ensures value { result ≡ next_byte self.now }
         ensures within { MatchOption result (length (text self.now) ≤ self.now.at) (λ _. self.now.at < length (text self.now)) }
     {
-        if self.at < self.bytes.len() {
-            Some(self.bytes[self.at])
-        } else {
-            None
-        }
+        self.bytes.get(self.at).copied()
     }
 
     // The fault of a line that does not go on so.
     pub(crate) fn wrong(&self) -> Fault
         ensures { (result.refusal ≡ NotOfForm) × (result.place ≡ self.now.at) }
     {
-        Fault {
-            refusal: Refusal::NotOfForm,
-            place: self.at,
-        }
+        Refusal::NotOfForm.at(self.at)
     }
 
     // Whether this byte comes next.
     pub fn sees(&self, mark: u8) -> bool
         ensures { MatchBool result ((self.now.at < length (text self.now)) × (next_byte self.now ≡ Some mark)) (next_byte self.now ≢ Some mark) }
     {
-        match self.peek() {
-            Some(b) => b == mark,
-            None => false,
-        }
+        self.peek() == Some(mark)
     }
 
     // Whether white space comes next.
     fn blank(&self) -> bool
         ensures { MatchBool result (self.now.at < length (text self.now) × BlankNext (drop self.now.at (text self.now))) (BlankNext (drop self.now.at (text self.now)) → ⊥) }
     {
-        match self.peek() {
-            Some(b) => b == b' ' || b == b'\t' || b == b'\r',
-            None => false,
-        }
+        matches!(self.peek(), Some(b' ' | b'\t' | b'\r'))
     }
 
     // Reads past white space.
     pub(crate) fn skip_blanks(&mut self)
         ensures { Skipped self.old self.new }
     {
+        // stays: how far the line is read is the place that refusals tell.
         while self.blank() {
             self.at += 1;
         }

@@ -17,10 +17,11 @@ const GREATEST: i32 = 999_999_999;
 // One more, to which a greater one is cut.
 const BEYOND: u64 = 1_000_000_000;
 
+// Whether a number lies beyond the range.
 fn is_beyond(value: i32) -> bool
     ensures { result ≡ beyond value }
 {
-    value > GREATEST || value < -GREATEST
+    !(-GREATEST..=GREATEST).contains(&value)
 }
 
 // Whether more digits may follow a first digit: after a zero none may.
@@ -45,12 +46,8 @@ impl Scanner<'_> {
         ensures { MatchOption result (NoDigit (next_byte self.now)) (λ d. (d < 10) × (self.now.at < length (text self.now)) × (next_byte self.now ≡ Some (48 + d))) }
     {
         match self.peek() {
-            Some(b) => if b >= b'0' && b <= b'9' {
-                Some(b - b'0')
-            } else {
-                None
-            },
-            None => None,
+            Some(b @ b'0'..=b'9') => Some(b - b'0'),
+            _ => None,
         }
     }
 
@@ -68,6 +65,7 @@ impl Scanner<'_> {
             return Ok(0);
         }
         let mut amount = first as u64;
+        // stays: how far the line is read is the place that refusals tell.
         while let Some(d) = self.digit() {
             amount = with_digit(amount, d);
             self.at += 1;

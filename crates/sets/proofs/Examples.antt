@@ -7,7 +7,8 @@ use Rattle.std.proofs.ByRecursion.{All-get_or, All-weaker, All-take, All-drop}
 use Rattle.std.proofs.lemmas.Int.{ints}
 use Rattle.std.proofs.lemmas.Bool.{eq-eqb, not-false, or_parts, false≢true}
 use Rattle.kinds.specs.declared.triangle.Edge.{Edge}
-use Rattle.kinds.specs.Triangles.{same_edge}
+use Rattle.kinds.specs.Facets.{bare}
+use Rattle.kinds.specs.Triangles.{triangles, same_edge}
 use Rattle.tables.specs.Judging.{Clear}
 use Rattle.tables.specs.Tables.{Counted, own_places}
 use Rattle.rules.specs.Cells.{some, facets_of}
@@ -18,7 +19,7 @@ use Rattle.rules.specs.Ranges.{EarlierKept}
 use Rattle.rules.specs.Values.{Coordinate, Numbered, CoordinatesKept, ErrorKept, CornersKept, SoundnessKept, GrowthKept}
 use Rattle.rules.proofs.Cells.{some_counting, counting_tells, makes_tells}
 use Rattle.rules.proofs.Ranges.{before_rises}
-use Rattle.sets.specs.Examples.{square, members, none, all, triangles, point}
+use Rattle.sets.specs.Examples.{square, members, none, all, point}
 use Rattle.sets.specs.Level.{OffFacets}
 use Rattle.sets.specs.Sets.{Needs, Closed, mesh_cells}
 
@@ -49,10 +50,10 @@ off_by p [] e = tt
 off_by p (x ∷ xs) e = let both = or_parts (p x) (some p xs) e in (both.0, off_by p xs both.1)
 
 pub off_coarse : OffFacets triangles square point (mesh_cells 3 square none)
-off_coarse = off_by (λ s. triangles.meets square.coordinates s.facet point) (facets_of triangles square (mesh_cells 3 square none)) refl
+off_coarse = off_by (λ s. triangles.meets square.coordinates (bare s) point) (facets_of triangles square (mesh_cells 3 square none)) refl
 
 pub off_finest : OffFacets triangles square point (mesh_cells 3 square all)
-off_finest = off_by (λ s. triangles.meets square.coordinates s.facet point) (facets_of triangles square (mesh_cells 3 square all)) refl
+off_finest = off_by (λ s. triangles.meets square.coordinates (bare s) point) (facets_of triangles square (mesh_cells 3 square all)) refl
 
 -- ---- the rules
 clear_listed : (K : ℕ → Type 0) (a n : ℕ) → AllByRecursion K (range_with_len a n) → Clear a (a + n) K

@@ -3,7 +3,7 @@ use Rattle.std.proofs.Common.{◌≡◌, ℕ, ◌+◌, ◌<◌, Bool, true, fals
 use Rattle.std.specs.List.{range_with_len, AllByRecursion}
 use Rattle.std.proofs.ByRecursion.{all_kept_by}
 use Rattle.std.proofs.lemmas.Int.{ints}
-use Rattle.kinds.specs.Facets.{Off, total}
+use Rattle.kinds.specs.Facets.{bare, Off, total}
 use Rattle.kinds.specs.Shapes.{Shape, tally}
 use Rattle.tables.specs.declared.contents.Places.{Places}
 use Rattle.tables.specs.Judging.{Clear}
@@ -47,7 +47,7 @@ module _ {F P : Type 0} (k : Shape F P) (t : Tables) where
     covered_total : (p : P) (cs : List ℕ) → AllByRecursion Sound cs → OffFacets k t p cs → pos (times_covered k t p cs) ≡ total (weight t.coordinates p) (facets_of k t cs)
     covered_total p [] sound off = refl
     covered_total p (c ∷ cs) sound off =
-        let parts = all_parts (λ s. k.meets t.coordinates s.facet p ≡ false) (k.rim (corners_of c)) (facets_of k t cs) off in
+        let parts = all_parts (λ s. k.meets t.coordinates (bare s) p ≡ false) (k.rim (corners_of c)) (facets_of k t cs) off in
         one (k.covers t.coordinates (corners_of c) p)
         ∙ (λ i. sym (laws.tells t.coordinates (corners_of c) p sound.0 parts.0) i +ℤ covered_total p cs sound.1 parts.1 i)
         ∙ sym (total-append (weight t.coordinates p) (k.rim (corners_of c)) (facets_of k t cs))

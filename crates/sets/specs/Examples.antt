@@ -1,9 +1,7 @@
 -- A worked hierarchy, and what the words say of it: a square of ground, refined four times. Assumes nothing.
 use Rattle.std.specs.Prelude.{◌≡◌, ℕ, Bool, List, [], ◌∷◌, map, pos, nat_eq}
-use Rattle.kinds.specs.declared.places.PlanePoint.{PlanePoint}
-use Rattle.kinds.specs.declared.triangle.Edge.{Edge}
-use Rattle.kinds.specs.Shapes.{Shape, shape}
-use Rattle.kinds.specs.Triangles.{rim_of, sound_in, covers_in, meets_edge, same_edge}
+use Rattle.kinds.specs.Places.{PlanePoint}
+use Rattle.kinds.specs.Triangles.{triangles}
 use Rattle.tables.specs.Tables.{Tables}
 use Rattle.rules.specs.Cells.{some, made_cells, taken_cells}
 use Rattle.rules.specs.Hierarchies.{MultiTriangulation}
@@ -48,10 +46,7 @@ none = members []
 abbrev pub all : ℕ → Bool
 all = members (1 ∷ 2 ∷ 3 ∷ 4 ∷ [])
 
--- the triangle as a kind of cell, and a point of the ground
-abbrev pub triangles : Shape Edge PlanePoint
-triangles = shape 3 rim_of sound_in covers_in meets_edge same_edge
-
+-- a point of the ground
 abbrev pub point : PlanePoint
 point = record { x = pos 100; y = pos 50 }
 

@@ -2,7 +2,6 @@
 // calls here do nothing and carry theorems about them.
 #![tactic(auto)]
 
-ghost use Rattle.kinds.specs.Shapes.{shape};
 ghost use Rattle.sets.specs.Examples.{MeshExamples};
 ghost use Rattle.sets.specs.Level.{MeshesAreLevel};
 
@@ -11,7 +10,7 @@ use kinds::Kind;
 // Over the mesh of every closed set each facet has the coarse mesh's signed count, and every point off the facets of both meshes is
 // covered by as many cells of each; for every kind of cell that keeps its laws.
 pub fn meshes_are_level<K: Kind>()
-    ensures { MeshesAreLevel (shape K.Kind.arity K.Kind.rim K.Kind.sound K.Kind.covers K.Kind.meets K.Kind.alike) }
+    ensures { MeshesAreLevel K.Kind.shape }
 {}
 
 // A small worked hierarchy keeps the rules, and its sets and meshes are as one sees by eye: the words are not empty.

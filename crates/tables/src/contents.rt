@@ -4,7 +4,7 @@ ghost use Rattle.faults.specs.declared.Refusal.TheVariants.{CountOffLimits};
 ghost use Rattle.tables.specs.Contents.{VerticesFit, CellsFit, ReplacementsFit, TakenFit, Fit, OffLimits};
 ghost use Rattle.tables.specs.Judging.{Clear};
 
-use crate::CellKind;
+use crate::{CellKind, Rule, judge};
 use faults::{Fault, Refusal};
 
 // The limits.
@@ -17,7 +17,7 @@ pub const MOST_REPLACEMENTS: usize = 4_096;
 pub const MOST_TAKEN: usize = 16_384;
 
 // What a hierarchy has: `cells` counts base cells and made cells, `taken` all taken numbers.
-#[derive(Clone, Copy)]
+#[derive(Clone, Copy, Debug, PartialEq, Eq)]
 pub struct Contents {
     pub kind: CellKind,
     pub vertices: usize,
@@ -28,7 +28,7 @@ pub struct Contents {
 }
 
 // How many numbers each of the four tables has places for.
-#[derive(Clone, Copy)]
+#[derive(Clone, Copy, Debug, PartialEq, Eq)]
 pub struct Places {
     pub coordinates: usize,
     pub corners: usize,
@@ -36,31 +36,18 @@ pub struct Places {
     pub taken: usize,
 }
 
-// The fault of a count that is off its limits.
-pub fn off_limits(place: usize) -> Fault
-    ensures { result ≡ record { refusal = CountOffLimits; place = place } }
-{
-    Fault {
-        refusal: Refusal::CountOffLimits,
-        place,
-    }
-}
-
 impl Contents {
     fn vertices_fit(&self, places: &Places) -> bool
         ensures { MatchBool result (VerticesFit self.now places.now) (VerticesFit self.now places.now → ⊥) }
     {
-        self.vertices >= 1
-            && self.vertices <= MOST_VERTICES
-            && 3 * self.vertices <= places.coordinates
+        (1..=MOST_VERTICES).contains(&self.vertices) && 3 * self.vertices <= places.coordinates
     }
 
     fn cells_fit(&self, places: &Places) -> bool
         ensures { MatchBool result (CellsFit self.now places.now) (CellsFit self.now places.now → ⊥) }
     {
         let corners = self.kind.corners();
-        self.base >= 1
-            && self.base <= self.cells
+        (1..=self.cells).contains(&self.base)
             && self.cells <= MOST_CELLS
             && corners * self.cells <= places.corners
     }
@@ -81,18 +68,32 @@ impl Contents {
     pub fn judge(&self, places: &Places) -> Result<(), Fault>
         ensures { MatchResult result (λ _. Clear 0 4 (Fit self.now places.now)) (OffLimits self.now places.now) }
     {
-        if !self.vertices_fit(places) {
-            return Err(off_limits(0));
+        let counts = Counts {
+            contents: self,
+            places,
+        };
+        judge(&counts, Refusal::CountOffLimits, 0, 4)
+    }
+}
+
+// The rule of the counts, of what a hierarchy has and the places that there are for it.
+#[derive(Clone, Copy)]
+struct Counts<'a> {
+    contents: &'a Contents,
+    places: &'a Places,
+}
+
+impl<'a> Rule for Counts<'a> {
+    ghost kept = { λ s q. Fit s.contents.now s.places.now q };
+
+    fn holds(&self, place: usize) -> bool {
+        // stays: the four counts are told by these places, so a `match` on them is what the rule says; closures in a table would need the same places.
+        match place {
+            0 => self.contents.vertices_fit(self.places),
+            1 => self.contents.cells_fit(self.places),
+            2 => self.contents.replacements_fit(self.places),
+            3 => self.contents.taken_fits(self.places),
+            _ => true,
         }
-        if !self.cells_fit(places) {
-            return Err(off_limits(1));
-        }
-        if !self.replacements_fit(places) {
-            return Err(off_limits(2));
-        }
-        if !self.taken_fits(places) {
-            return Err(off_limits(3));
-        }
-        Ok(())
     }
 }

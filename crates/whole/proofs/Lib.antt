@@ -1,3 +1,2 @@
 pub mod Identities
 pub mod Signs
-pub mod Bounds

@@ -1,5 +1,5 @@
 // Exact arithmetic of whole numbers: operations whose answer always fits, so that no call asks anything. What is proved of whole
-// numbers for its own sake, as identities, signs and bounds of products, stands in proofs/ and serves every crate above.
+// numbers for its own sake, as identities and signs of products, stands in proofs/ and serves every crate above.
 #![tactic(auto)]
 
 ghost use Rattle.std.specs.Prelude.{◌-ℤ◌, ◌*ℤ◌, ◌≡◌};

@@ -12,17 +12,13 @@ impl Workspace {
         ensures { IfOk result (λ w. w.corners ≡ corners) }
     {
         let corners = corners as usize;
-        let parts = Blank::new(heap)?;
-        let boxes = Blank::new(heap)?;
-        let makers = Blank::new(heap)?;
-        let takers = Blank::new(heap)?;
+        let owners = Blank::new(heap)?;
+        let replacements = Blank::new(heap)?;
         let rims = RimMemory::new(heap, 2 * corners)?;
         Ok(Workspace {
             corners,
-            parts,
-            boxes,
-            makers,
-            takers,
+            owners,
+            replacements,
             rims,
         })
     }

@@ -1,13 +1,10 @@
-use Rattle.std.proofs.Common.{refl, inl, inr, rules}
+use Rattle.std.proofs.Common.{refl, inr, rules}
 use Rattle.faults.proofs.Exits.{passed_on}
 use Rattle.arrays.specs.Sink.{filling}
 use Rattle.hierarchypass.specs.Passing.{fillings}
 use Rattle.hierarchylines.specs.Reading.{lists}
 use Rattle.hierarchylines.proofs.Outcomes.{off_limits, second_pass, same_lists}
 use Rattle.hierarchylines.proofs.read_hierarchy.Goals as goal
-
-pub returns-in_err-contents : goal.returns-in_err-contents
-returns-in_err-contents c = passed_on _ _ c.from_residual.result c.in_err-contents.field-0.0 c.from_residual.ensures.1 (inl c.in_err-contents.ensures, refl)
 
 pub returns-in_err-judge : goal.returns-in_err-judge
 returns-in_err-judge c =
@@ -18,4 +15,6 @@ pub returns : goal.returns
 returns c =
     let last = c.pass_hierarchy.new in
     second_pass c.in_ok-contents.ensures (lists c.args.coordinates.now c.args.corners.now c.args.replacements.now c.args.taken.now) _ (fillings (filling last.coordinates) (filling last.corners) (filling last.replacements) (filling last.taken)) c.pass_hierarchy.result
-    c.places_in-places.result c.places_in-places.ensures c.in_ok-judge.ensures c.pass_hierarchy.ensures.reads (same_lists (search rules) (search rules) (search rules) (search rules))
+    c.places_in-places.result c.places_in-places.ensures c.in_ok-judge.ensures
+    (rw (c.over.ensures.unused, c.over-2.ensures.unused, c.over-3.ensures.unused, c.over-4.ensures.unused) at c.pass_hierarchy.ensures.reads)
+    (same_lists (search rules) (search rules) (search rules) (search rules))

@@ -1,4 +1,3 @@
-use Rattle.kinds.specs.Shapes.{shape}
 use Rattle.sets.proofs.Levelling.{meshes_level}
 use Rattle.sets.proofs.meshes_are_level.Goals as goal
 
@@ -6,4 +5,4 @@ pub returns : goal.returns
 returns g c =
     let k = g.K.Kind in
     let laws = g.met.K.Kind in
-    meshes_level (shape k.arity k.rim k.sound k.covers k.meets k.alike) k.weight (record { some = laws.some; likes = laws.likes; likens = laws.likens; tells = laws.tells })
+    meshes_level k.shape k.weight (record { some = laws.some; likes = laws.likes; likens = laws.likens; tells = laws.tells })

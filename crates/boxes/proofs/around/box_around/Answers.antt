@@ -1,53 +1,42 @@
-use Rattle.std.proofs.Common.{◌≡◌, ℕ, ◌+◌, ◌<◌, true, List, length, get_or, take, ℤ, pos, is_some, sym, ap, ◌∙◌, subst, arith, w32, SFits, rules}
-use Rattle.std.proofs.ByRecursion.{All-get_or}
-use Rattle.std.proofs.lemmas.List.{take_all}
-use Rattle.std.proofs.lemmas.Int.{to_z-of_z}
-use Rattle.boxes.specs.Spots.{spot, Surrounds}
-use Rattle.boxes.proofs.Surrounding.{surrounds_more, surrounds_less, contains_here, nowhere}
+use Rattle.std.proofs.Common.{ℕ, ◌+◌, ◌<◌, length, get_or, List, ℤ, pos, ◌≡◌, ◌≤◌, Some, None, Option, MatchOption, sym, ap, ◌∙◌, subst, rules}
+use Rattle.std.proofs.lemmas.List.{take_all, take_more}
+use Rattle.kinds.specs.Places.{spot}
+use Rattle.boxes.specs.declared.extent.Extent.{Extent}
+use Rattle.boxes.specs.Spots.{Smallest, Spotted}
+use Rattle.boxes.proofs.Surrounding.{not_spotted, read_rest, smallest_one, smallest_more}
 use Rattle.boxes.proofs.around.box_around.Goals as goal
 
-pub returns-in_default : goal.returns-in_default
-returns-in_default c s =
-    let z : ℤ = get_or c.args.list.now 0 (pos 0) in
-    let fits : SFits w32 z = search rules in
-    nowhere c.args.vertices.now z (ap (spot c.args.vertices.now) (sym (to_z-of_z w32 z fits)) ∙ sym c.spot_of.ensures ∙ c.in_default.is) (All-get_or (λ (y : ℤ). is_some (spot c.args.vertices.now y) ≡ true) c.args.list.now 0 (pos 0) s.one s.all)
-
-pub returns-in_default-spot_of : goal.returns-in_default-spot_of
-returns-in_default-spot_of c s =
-    let i : ℕ = c.loop-vertex.vertex-index in
-    let z : ℤ = get_or c.args.list.now i (pos 0) in
-    let fits : SFits w32 z = search rules in
-    nowhere c.args.vertices.now z (ap (spot c.args.vertices.now) (sym (to_z-of_z w32 z fits)) ∙ sym c.spot_of-in-loop-vertex.ensures ∙ c.in_default-spot_of.is) (All-get_or (λ (y : ℤ). is_some (spot c.args.vertices.now y) ≡ true) c.args.list.now i (pos 0) c.loop-vertex-test.true s.all)
+pub loop-vertex-init : goal.loop-vertex-init
+loop-vertex-init c =
+    let vs : List ℤ = c.args.vertices.now in
+    let zs : List ℤ = c.args.list.now in
+    let some : 0 < length zs = search rules in
+    let here : spot vs (get_or zs 0 (pos 0)) ≡ Some c.in_ok-numbered.field-0 = search rules in
+    subst (λ (ys : List ℤ). Smallest vs ys c.at-around.result) (sym (take_more zs 0 (pos 0) some)) (smallest_one vs zs 0 some c.in_ok-numbered.field-0 here c.at-around.result c.at-around.ensures)
 
 pub loop-vertex-preserved : goal.loop-vertex-preserved
 loop-vertex-preserved c =
     let vs : List ℤ = c.args.vertices.now in
     let zs : List ℤ = c.args.list.now in
-    let i : ℕ = c.loop-vertex.vertex-index in
-    let z : ℤ = get_or zs i (pos 0) in
-    let fits : SFits w32 z = search rules in
-    let lt : i < length zs = c.loop-vertex-test.true in
-    let p = c.in-Some-spot_of.here in
-    let here : spot vs z ≡ _ = ap (spot vs) (sym (to_z-of_z w32 z fits)) ∙ sym c.spot_of-in-loop-vertex.ensures ∙ c.in-Some-spot_of.is in
-    let w = c.widened-around.ensures in (
-      surrounds_more vs zs i lt p here c.loop-vertex.around c.widened-around.result c.loop-vertex.invariant.0 w,
-      λ d first s. w.least d (c.loop-vertex.invariant.1 d first (surrounds_less vs zs i (i + 1) d (omega arith) s)) (contains_here vs zs i lt p here (i + 1) d (omega arith) s),
-    )
+    let i : ℕ = c.loop-vertex.vertex-index + 1 in
+    let lt : i < length zs = search rules in
+    let read = read_rest zs c.loop-vertex.vertex-index (search rules) (search rules) in
+    let here : spot vs (get_or zs i (pos 0)) ≡ Some c.in_ok-numbered-2.field-0 = ap (spot vs) (sym read) ∙ sym c.numbered-in-loop-vertex.ensures ∙ c.in_ok-numbered-2.was in
+    smallest_more vs zs i lt c.in_ok-numbered-2.field-0 here c.loop-vertex.around c.with-around.result c.loop-vertex.invariant c.with-around.ensures
+
+pub returns-in_err-numbered-2 : goal.returns-in_err-numbered-2
+returns-in_err-numbered-2 c =
+    let vs : List ℤ = c.args.vertices.now in
+    let zs : List ℤ = c.args.list.now in
+    let i : ℕ = c.loop-vertex.vertex-index + 1 in
+    let lt : i < length zs = search rules in
+    let read = read_rest zs c.loop-vertex.vertex-index (search rules) (search rules) in
+    let none : spot vs (get_or zs i (pos 0)) ≡ None = ap (spot vs) (sym read) ∙ sym c.numbered-in-loop-vertex.ensures ∙ c.in_err-numbered-2.was in
+    subst (λ (o : Option Extent). MatchOption o (Spotted vs zs → ⊥) (Smallest vs zs)) (sym c.from_residual-in_err-numbered-2.ensures) (not_spotted vs zs i lt none)
 
 pub returns : goal.returns
 returns c =
-    let vs : List ℤ = c.args.vertices.now in
     let zs : List ℤ = c.args.list.now in
-    let z : ℤ = get_or zs 0 (pos 0) in
-    let fits : SFits w32 z = search rules in
-    let n : ℕ = c.loop-vertex.vertex-index in
-    let some : 0 < length zs = omega (arith, c.if-list-eq0.false) in
-    let all : take n zs ≡ zs = take_all n zs c.loop-vertex-test.false in
-    let p = c.in-Some.first in
-    let here : spot vs z ≡ _ = ap (spot vs) (sym (to_z-of_z w32 z fits)) ∙ sym c.spot_of.ensures ∙ c.in-Some.is in
-    record {
-      around = subst (λ (xs : List ℤ). Surrounds vs xs c.loop-vertex.around) all c.loop-vertex.invariant.0;
-      least = λ d s.
-          let s' = subst (λ (xs : List ℤ). Surrounds vs xs d) (sym all) s in
-          c.loop-vertex.invariant.1 d (c.just-around.ensures.1 d (contains_here vs zs 0 some p here n d (omega (arith, c.loop-vertex-test.false)) s')) s';
-    }
+    let i : ℕ = c.loop-vertex.vertex-index + 1 in
+    let done : length zs ≤ i = search rules in
+    subst (λ (ys : List ℤ). Smallest c.args.vertices.now ys c.loop-vertex.around) (take_all i zs done) c.loop-vertex.invariant

@@ -1,51 +1,51 @@
-use Rattle.std.proofs.Common.{◌≡◌, ℕ, ◌+◌, List, ◌++◌, replicate, nat_abs, vec_items, sym, ap, ◌∙◌, subst, arith}
-use Rattle.rules.specs.Rows.{replacements_in}
+use Rattle.std.proofs.Common.{◌≡◌, ℕ, ◌+◌, nat_abs, vec_items, vec_len, sym, refl, subst, ap, ◌∙◌, arith}
+use Rattle.std.specs.Result.{IsOk}
+use Rattle.rules.specs.Ranges.{before}
 use Rattle.rules.specs.Raw.{lists_of}
-use Rattle.owners.specs.Owners.{count_of, Makers}
-use Rattle.owners.specs.Spans.{reach}
-use Rattle.owners.proofs.Spans.{reach_more, reach_mono}
-use Rattle.owners.proofs.Blanks.{no_items}
-use Rattle.owners.proofs.Making.{makers_list, makers_more, makers-length, maker_spans}
-use Rattle.owners.proofs.Ties.{ties_makers}
+use Rattle.rules.specs.Rows.{replacements_in}
+use Rattle.rules.proofs.Ranges.{before_rises}
+use Rattle.owners.proofs.Listing.{turn, turns_end}
+use Rattle.owners.proofs.Making.{made_more, are_makers, none_taken}
 use Rattle.owners.proofs.makers.list_makers.Goals as goal
+use Rattle.owners.proofs.makers.list_makers.Goals.{In-None}
 
-pub loop-i-init : goal.loop-i-init
-loop-i-init c =
-    let e = c.add_entries.ensures in (
-      e.items ∙ ap (λ (xs : List ℕ). xs ++ replicate c.base_count.result 0) (no_items c.args.blank.items c.args.blank.empty) ∙ ap (λ (n : ℕ). replicate n 0) c.base_count.ensures,
-      omega (arith, e.len, c.args.blank.empty, c.base_count.ensures),
-      omega (arith, e.capacity, c.args.blank.room),
-    )
+pub unwrap-requires-in-loop-n : goal.unwrap-requires-in-loop-n
+unwrap-requires-in-loop-n c =
+    let t = lists_of c.args.ranged.now.tables in
+    let i = c.loop-n.invariant in
+    let x = turn t (sym i.left ∙ c.in-Some.ensures.steps) in
+    c.resize-in-loop-n.ensures.succeeds (omega (arith, i.long, x.first_end, before_rises 2 t.replacements (i.gone + 1) (replacements_in t) (omega (arith, x.inside)), c.args.ranged.now.made))
 
-pub add_entries-requires-in-loop-i : goal.add_entries-requires-in-loop-i
-add_entries-requires-in-loop-i c =
-    let r = c.args.ranged.now in
-    let f : ℕ → ℕ = count_of 2 r.tables.replacements.now in
-    let base : ℕ = nat_abs r.tables.base in
-    omega (arith, c.loop-i.invariant.1, c.loop-i.invariant.2, reach_more base f c.loop-i.i, reach_mono base f (c.loop-i.i + 1) (replacements_in (lists_of r.tables)) (omega (arith, c.loop-i-test.true)), r.made, c.count_at.ensures.value)
+pub loop-n-preserved : goal.loop-n-preserved
+loop-n-preserved c =
+    let t = lists_of c.args.ranged.now.tables in
+    let i = c.loop-n.invariant in
+    let x = turn t (sym i.left ∙ c.in-Some.ensures.steps) in
+    let e = c.resize-in-loop-n.ensures in
+    let ok : IsOk c.resize-in-loop-n.result = subst IsOk (sym c.unwrap-in-loop-n.ensures) refl in
+    let size : vec_len c.resize-in-loop-n.new.self ≡ c.len.result + c.in-Some.part.makes = rw c.unwrap-in-loop-n.ensures at e.len in
+    let now' = c.loop-n.owners.ok.0 in
+    let all = c.resize-in-loop-n.new.self.ok.0 in
+    record {
+      gone = i.gone + 1;
+      inside = omega (arith, x.inside);
+      left = x.rest;
+      long = omega (arith, size, c.len.ensures, i.long, x.first, x.first_end);
+      entered = made_more t x (vec_items c.loop-n.owners) (vec_items c.resize-in-loop-n.new.self) (sym now' ∙ i.long) (omega (arith, size, c.len.ensures, now', all))
+          (λ k d lt. e.by_index.0 k d (omega (arith, now', c.len.ensures)) (omega (arith, now')))
+          (λ k d ge lt. e.by_index.1 k d ok (omega (arith, now')) (omega (arith, all, size))) i.entered;
+      capacity = omega (arith, e.capacity, i.capacity);
+    }
 
-pub loop-i-preserved : goal.loop-i-preserved
-loop-i-preserved c =
-    let r = c.args.ranged.now in
-    let f : ℕ → ℕ = count_of 2 r.tables.replacements.now in
-    let base : ℕ = nat_abs r.tables.base in
-    let i : ℕ = c.loop-i.i in
-    let e = c.add_entries-in-loop-i.ensures in
-    let same : c.count_at.result ≡ f i = c.count_at.ensures.value in (
-      e.items ∙ ap (λ (xs : List ℕ). xs ++ replicate c.count_at.result (i + 1)) c.loop-i.invariant.0 ∙ ap (λ (n : ℕ). makers_list base f i ++ replicate n (i + 1)) same ∙ sym (makers_more base f i),
-      omega (arith, e.len, c.loop-i.invariant.1, same, reach_more base f i),
-      omega (arith, e.capacity, c.loop-i.invariant.2),
-    )
+-- all replacements have come
+done : (c : In-None) → c.loop-n.invariant.gone ≡ replacements_in (lists_of c.args.ranged.now.tables)
+done c = omega (arith, turns_end (lists_of c.args.ranged.now.tables) (sym c.loop-n.invariant.left ∙ c.in-None.ensures.steps.0), c.loop-n.invariant.inside)
 
 pub returns : goal.returns
 returns c =
-    let r = c.args.ranged.now in
-    let f : ℕ → ℕ = count_of 2 r.tables.replacements.now in
-    let base : ℕ = nat_abs r.tables.base in
-    let reps : ℕ = replacements_in (lists_of r.tables) in
-    let done : c.loop-i.i ≡ reps = omega (arith, c.loop-i-test.false, c.loop-i.auto.i-end) in
-    let all : vec_items c.loop-i.makers ≡ makers_list base f reps = c.loop-i.invariant.0 ∙ ap (makers_list base f) done in
+    let t = lists_of c.args.ranged.now.tables in
     record {
-      len = c.loop-i.invariant.1 ∙ ap (reach base f) done;
-      ties = subst (λ (ms : List ℕ). Makers (lists_of r.tables) ms) (sym all) (ties_makers (lists_of r.tables) (makers_list base f reps) (λ k h. maker_spans base f reps k (omega (arith, makers-length base f reps))));
+      len = c.loop-n.invariant.long ∙ ap (λ (k : ℕ). nat_abs t.base + before 2 t.replacements k) (done c);
+      makers = are_makers t (vec_items c.loop-n.owners) c.loop-n.invariant.entered;
+      free = none_taken t (vec_items c.loop-n.owners) c.loop-n.invariant.entered;
     }

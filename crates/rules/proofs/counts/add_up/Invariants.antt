@@ -1,10 +1,10 @@
-use Rattle.std.proofs.Common.{◌≡◌, ◌≤◌, take, pos, ◌+ℤ◌}
-use Rattle.std.specs.List.{AllByRecursion}
-use Rattle.tables.specs.Tables.{column, total, NotNegative}
+use Rattle.std.proofs.Common.{◌≡◌, ◌≤◌, ℤ, map}
+use Rattle.rules.specs.declared.record.Record.{Record}
+use Rattle.rules.specs.Records.{records_of}
+use Rattle.rules.proofs.Sums.{Adding}
 use Rattle.rules.proofs.counts.add_up.Given as goal
 
-abbrev pub invariant-loop-i : goal.invariant-loop-i
-invariant-loop-i l =
-    AllByRecursion NotNegative (take l.i (column l.column l.replacements))
-    × (pos l.start +ℤ total (take l.i (column l.column l.replacements)) ≡ pos l.sum)
-    × (l.sum ≤ 16384)
+abbrev pub invariant-loop-record : goal.invariant-loop-record
+invariant-loop-record g l =
+    (l.sum ≤ 16384)
+    × ((counts : Record → ℤ) → ((r : Record) (z : ℤ) → goal.F-post g l.count_of r z → z ≡ counts r) → Adding (map counts (records_of l.fn.records.left.now)) l.start (map counts (records_of l.record-iterator.left.now)) l.sum)

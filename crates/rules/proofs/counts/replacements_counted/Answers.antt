@@ -1,4 +1,0 @@
-use Rattle.rules.proofs.counts.replacements_counted.Goals as goal
-
-pub returns-in-None : goal.returns-in-None
-returns-in-None c x = c.in-None.ensures x.replacements x.whole
