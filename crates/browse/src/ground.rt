@@ -1,4 +1,10 @@
 // The memory of the browser: places for the tables of one hierarchy, and what a check of it needs; and answering a hierarchy line with it.
+ghost use Rattle.std.specs.Prelude.{◌≡◌, ◌<◌, length};
+ghost use Rattle.browse.specs.Answers.{Answered};
+ghost use Rattle.browse.specs.declared.answer.Answer.TheVariants.{Refused};
+ghost use Rattle.faults.specs.declared.Refusal.TheVariants.{InputTooLong};
+ghost use Rattle.rules.specs.Raw.{lists_of};
+
 use crate::answer::Answer;
 use faults::Refusal;
 use hierarchy::{Workspace, accept};
@@ -24,7 +30,9 @@ pub struct Ground {
 }
 
 // Checks the tables, and answers how many vertices, cells and replacements there are.
-fn check<K: Kind>(tables: RawTables<'_>, work: Workspace) -> Answer {
+fn check<K: Kind>(tables: RawTables<'_>, work: Workspace) -> Answer
+    ensures { Answered K.Kind.shape (lists_of tables.entry) work.corners result }
+{
     match accept::<K>(tables, work) {
         Ok(hierarchy) => Answer::Accepted {
             vertices: hierarchy.vertices(),
@@ -94,7 +102,9 @@ impl Ground {
     }
 
     // Answers an input by its first line; an input that is too long is refused whole.
-    pub fn answer(self, input: &[u8]) -> Answer {
+    pub fn answer(self, input: &[u8]) -> Answer
+        ensures long { 65536 < length input.now → result ≡ Refused (record { refusal = InputTooLong; place = 65536 }) }
+    {
         if input.len() > LONGEST {
             return Answer::Refused(Refusal::InputTooLong.at(LONGEST));
         }
