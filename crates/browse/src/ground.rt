@@ -1,5 +1,5 @@
 // The memory of the browser: places for the tables of one hierarchy, and what a check of it needs; and answering a hierarchy line with it.
-ghost use Rattle.std.specs.Prelude.{◌≡◌, ◌<◌, length};
+ghost use Rattle.std.specs.Prelude.{◌≡◌, ◌<◌, length, IfOk, vec_len};
 ghost use Rattle.browse.specs.Answers.{Answered};
 ghost use Rattle.browse.specs.declared.answer.Answer.TheVariants.{Refused};
 ghost use Rattle.faults.specs.declared.Refusal.TheVariants.{InputTooLong};
@@ -20,6 +20,7 @@ const LONGEST: usize = 65_536;
 // Places for the corners of the most cells there may be, of the kind that has most.
 const CORNERS: u32 = 49_152;
 
+// Places for the most that a hierarchy may have, and memory to check it.
 #[derive(Drop)]
 pub struct Ground {
     coordinates: Vec<i32>,
@@ -50,7 +51,10 @@ fn first(list: &[i32], count: usize) -> &[i32] {
 
 impl Ground {
     // Gets the memory, or finds none.
-    pub fn new(heap: Global) -> Result<Ground, AllocError> {
+    pub fn new(heap: Global) -> Result<Ground, AllocError>
+        ensures lists { IfOk result (λ g. (vec_len g.coordinates ≡ 12288) × (vec_len g.corners ≡ 49152) × (vec_len g.replacements ≡ 12288) × (vec_len g.taken ≡ 16384)) }
+        ensures check { IfOk result (λ g. g.work.corners ≡ 49152) }
+    {
         Ok(Ground {
             coordinates: vec![in heap; 0; 12_288]?,
             corners: vec![in heap; 0; 49_152]?,

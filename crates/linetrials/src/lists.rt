@@ -33,7 +33,7 @@ fn hash(values: &[i32]) -> u64 {
 }
 
 // The first values of a list, and the places after them, which had to stay; None where there are no such places.
-#[derive(Clone, Copy)]
+#[derive(Clone, Copy, Debug, PartialEq, Eq)]
 pub struct Shown<'a> {
     values: Option<&'a [i32]>,
     rest: Option<&'a [i32]>,
@@ -59,7 +59,7 @@ impl fmt::Display for Shown<'_> {
 }
 
 // Places that had to stay as they were: nothing is said where they did.
-#[derive(Clone, Copy)]
+#[derive(Clone, Copy, Debug, PartialEq, Eq)]
 pub struct Untouched<'a>(Option<&'a [i32]>);
 
 impl fmt::Display for Untouched<'_> {

@@ -16,7 +16,7 @@ use tables::{Contents, Places};
 use trials::{Reading, Trials};
 
 // A refusal: its number and its place.
-#[derive(Clone, Copy)]
+#[derive(Clone, Copy, Debug, PartialEq, Eq)]
 struct Refused(Fault);
 
 impl fmt::Display for Refused {

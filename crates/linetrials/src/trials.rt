@@ -14,7 +14,7 @@ pub enum Reading {
 }
 
 // A line in parts, of which the middle comes so many times, and how it is read.
-#[derive(Clone, Copy)]
+#[derive(Clone, Copy, Debug, PartialEq, Eq)]
 pub struct Trial<'a> {
     pub reading: Reading,
     head: &'a [u8],

@@ -8,7 +8,7 @@ use std::io::Read;
 use std::{fmt, io};
 
 // Bytes as a terminal shows each of them.
-#[derive(Clone, Copy)]
+#[derive(Clone, Copy, Debug, PartialEq, Eq)]
 struct Quoted<'a>(&'a [u8]);
 
 impl fmt::Display for Quoted<'_> {
@@ -25,7 +25,7 @@ impl fmt::Display for Quoted<'_> {
 }
 
 // What is wrong with a line.
-#[derive(Clone, Copy)]
+#[derive(Clone, Copy, Debug, PartialEq, Eq)]
 struct Refused<'a> {
     line: &'a [u8],
     fault: Fault,
