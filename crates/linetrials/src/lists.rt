@@ -14,10 +14,9 @@ pub struct Numbers {
     places: Vec<i32>,
 }
 
-// A list for an order, and one for each table of a hierarchy.
+// A list for each table of a hierarchy; the values of an order are read into the first.
 #[derive(Drop)]
 pub struct Lists {
-    pub values: Numbers,
     pub coordinates: Numbers,
     pub corners: Numbers,
     pub replacements: Numbers,
@@ -106,7 +105,6 @@ impl Numbers {
 impl Lists {
     pub fn new(heap: Global) -> Result<Lists, AllocError> {
         Ok(Lists {
-            values: Numbers::new(heap)?,
             coordinates: Numbers::new(heap)?,
             corners: Numbers::new(heap)?,
             replacements: Numbers::new(heap)?,

@@ -3,6 +3,8 @@
 // that reading has to leave as they were: a disturbed one adds the word DISTURBED to the answer.
 #![tactic(auto)]
 
+#[cfg(test)]
+mod cut;
 mod lists;
 mod trials;
 
@@ -29,14 +31,14 @@ impl fmt::Display for Refused {
 
 // Reads an order, and prints the answer.
 fn try_order(rt: &HostRuntime, line: &[u8], places: usize, lists: &mut Lists) -> io::Result<()> {
-    match read_order(line, lists.values.lend(places)) {
+    match read_order(line, lists.coordinates.lend(places)) {
         Ok(count) => {
-            let values = lists.values.show(count, places);
+            let values = lists.coordinates.show(count, places);
             println!(rt; "ok {count}{values}")
         }
         Err(fault) => {
             let refused = Refused(fault);
-            let values = lists.values.untouched(places);
+            let values = lists.coordinates.untouched(places);
             println!(rt; "{refused}{values}")
         }
     }
