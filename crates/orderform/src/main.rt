@@ -11,13 +11,20 @@ use std::{fmt, io};
 #[derive(Clone, Copy, Debug, PartialEq, Eq)]
 struct Quoted<'a>(&'a [u8]);
 
+// Whether a terminal shows the byte as it is.
+fn is_plain(b: u8) -> bool {
+    matches!(b, b' '..=b'~')
+}
+
 impl fmt::Display for Quoted<'_> {
     fn fmt<W: fmt::Write>(&self, f: &mut fmt::Formatter<W>) -> fmt::Result {
-        for b in self.0 {
-            match *b {
-                b'\t' => f.write_str("\\t")?,
-                b'\r' => f.write_str("\\r")?,
-                other => f.write_char(char::from(other))?,
+        // plain bytes are written a run at a time, since a line can have many, and each other byte by itself
+        for run in self.0.chunk_by(|a, b| is_plain(*a) && is_plain(*b)) {
+            match run {
+                [b'\t'] => f.write_str("\\t")?,
+                [b'\r'] => f.write_str("\\r")?,
+                [other] => f.write_char(char::from(*other))?,
+                plain => f.write_str(str::from_utf8(plain).map_err(|_| fmt::Error)?)?,
             }
         }
         Ok(())
