@@ -26,7 +26,7 @@ use Rattle.hierarchy.specs.Derived.{BoxOf, Boxes, boxes_in, Ordered, ranges_in}
 
 -- ---- owners
 -- what is owned is one of the entries, each of which tells its owner
-record Owned (owns : ℕ → ℕ → Bool) (os : List (Option ReplacementId)) : Type 0 where
+pub record Owned (owns : ℕ → ℕ → Bool) (os : List (Option ReplacementId)) : Type 0 where
   pub tells : (n c : ℕ) → c < length os → owns n c ≡ is_replacement n (get_or os c None)
   pub inside : (n c : ℕ) → owns n c ≡ true → c < length os
 
@@ -40,7 +40,7 @@ module _ (owns : ℕ → ℕ → Bool) (os : List (Option ReplacementId)) where
       (λ ge. let none : ◌≡◌ {A = Option ReplacementId} None (Some n) = sym (get_or_past os c None ge) ∙ e in cc)
       (cases_lt c (length os))
 
-  asked : ∥ Owned owns os ∥₁ → (c : ℕ) (r : Option ReplacementId) → r ≡ get_or os c None → MatchOption r ((n : ℕ) → owns n c ≡ false) (λ n. owns n.0 c ≡ true)
+  pub asked : ∥ Owned owns os ∥₁ → (c : ℕ) (r : Option ReplacementId) → r ≡ get_or os c None → MatchOption r ((n : ℕ) → owns n c ≡ false) (λ n. owns n.0 c ≡ true)
   asked o c None e = λ n. ∥∥₁_elim o (Bool-set (owns n c) false) (λ x. unowned x c (sym e) n)
   asked o c (Some n) e = ∥∥₁_elim o (Bool-set (owns n.0 c) true) (λ x. owned x c n (sym e))
 

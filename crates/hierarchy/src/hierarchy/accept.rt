@@ -6,6 +6,7 @@ ghost use Rattle.rules.specs.Hierarchies.{linked_rows, plain_rows};
 ghost use Rattle.tables.specs.Judging.{Lawful, Refused};
 
 use crate::replacements::list_replacements;
+use crate::rim_rule::judge_rims;
 use crate::{Hierarchy, Workspace};
 use faults::Fault;
 use kinds::Kind;
@@ -27,7 +28,8 @@ fn link<'a, K: Kind>(tables: RawTables<'a>, work: Workspace) -> Result<Hierarchy
     } = work;
     let ranged = Ranged { tables };
     let owners = list_owners(&ranged, owners)?;
-    let replacements = list_replacements::<K>(&ranged, &mut rims, replacements)?;
+    judge_rims::<K>(&ranged, &mut rims)?;
+    let replacements = list_replacements::<K>(&ranged, replacements);
     Ok(Hierarchy {
         kind: PhantomData,
         tables,
