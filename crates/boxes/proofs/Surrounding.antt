@@ -3,14 +3,14 @@ use Rattle.std.proofs.Common.{◌≡◌, ℕ, ◌+◌, ◌-◌, ◌<◌, List, [
 use Rattle.std.specs.Int.{int_max, int_min}
 use Rattle.std.proofs.lemmas.Int.{ints, to_z-of_z}
 use Rattle.std.proofs.lemmas.Bool.{both_ways}
-use Rattle.std.proofs.lemmas.List.{get_or-take, take_more}
+use Rattle.std.proofs.lemmas.List.{get_or-take, length-take, take_more}
 use Rattle.std.proofs.lemmas.Grind.{get_or_after_one}
 use Rattle.std.proofs.ByRecursion.{All-append, All-get_or, All-weaker}
 use Rattle.std.specs.List.{AllByRecursion}
 use Rattle.kinds.specs.declared.places.Spot.{Spot}
 use Rattle.kinds.specs.Places.{spot}
 use Rattle.boxes.specs.declared.extent.Extent.{Extent}
-use Rattle.boxes.specs.Spots.{Contains, Inside, Smallest, Spotted, Widened}
+use Rattle.boxes.specs.Spots.{Contains, Inside, Smallest, Spotted, Surrounds, Widened}
 
 pub min_under : (a b r : ℤ) → r ≡ int_min a b → (r ≤ℤ a) × (r ≤ℤ b)
 min_under a b r e = (grind (arith, ints), grind (arith, ints))
@@ -95,14 +95,22 @@ module _ (vs zs : List ℤ) (i : ℕ) (lt : i < length zs) (p : Spot) (here : sp
   pub smallest_one : (b : Extent) → Contains b p × ((d : Extent) → Contains d p → Inside b d) → Smallest vs (z ∷ []) b
   smallest_one b h = record { around = (here_in b h.0, tt); least = λ d s. h.1 d (out_of d s.0) }
 
-  -- and around one vertex more
+  -- a box around some vertices, widened to one more, is around that as well
+  pub surrounds_more : (b r : Extent) → Surrounds vs (take i zs) b → Widened b p r → Surrounds vs (take (i + 1) zs) r
+  surrounds_more b r s w = subst (λ (ys : List ℤ). Surrounds vs ys r) (sym (take_more zs i (pos 0) lt)) (
+      All-append (λ y. MatchOption (spot vs y) ⊥ (Contains r)) (take i zs) (z ∷ [])
+      (All-weaker (λ y. MatchOption (spot vs y) ⊥ (Contains b)) (λ y. MatchOption (spot vs y) ⊥ (Contains r)) (λ y h. cases_wider (spot vs y) b r w.holds_box h) (take i zs) s)
+      (here_in r w.holds_point, tt))
+
+  -- a box around the first vertices has this one in it, if it is one of them
+  pub contains_here : (n : ℕ) (d : Extent) → i < n → Surrounds vs (take n zs) d → Contains d p
+  contains_here n d h s = out_of d (subst (λ (y : ℤ). MatchOption (spot vs y) ⊥ (Contains d)) (get_or-take n zs i (pos 0) h) (All-get_or (λ y. MatchOption (spot vs y) ⊥ (Contains d)) (take n zs) i (pos 0) (omega (arith, length-take n zs)) s))
+
+  -- the smallest box around some vertices, widened to one more, is the smallest around these
   pub smallest_more : (b r : Extent) → Smallest vs (take i zs) b → Widened b p r → Smallest vs (take (i + 1) zs) r
-  smallest_more b r s w = subst (λ (ys : List ℤ). Smallest vs ys r) (sym (take_more zs i (pos 0) lt)) (record {
-    around =
-        All-append (λ y. MatchOption (spot vs y) ⊥ (Contains r)) (take i zs) (z ∷ [])
-        (All-weaker (λ y. MatchOption (spot vs y) ⊥ (Contains b)) (λ y. MatchOption (spot vs y) ⊥ (Contains r)) (λ y h. cases_wider (spot vs y) b r w.holds_box h) (take i zs) s.around)
-        (here_in r w.holds_point, tt);
+  smallest_more b r s w = record {
+    around = surrounds_more b r s.around w;
     least = λ d h.
-        let parts = all_parts (λ y. MatchOption (spot vs y) ⊥ (Contains d)) (take i zs) (z ∷ []) h in
+        let parts = all_parts (λ y. MatchOption (spot vs y) ⊥ (Contains d)) (take i zs) (z ∷ []) (subst (λ (ys : List ℤ). Surrounds vs ys d) (take_more zs i (pos 0) lt) h) in
         w.least d (s.least d parts.0) (out_of d parts.1.0);
-  })
+  }

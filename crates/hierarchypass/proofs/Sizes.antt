@@ -31,7 +31,7 @@ among_size : (rs : List Replacement) → taken_count rs + made_count rs ≤ leng
 among_size [] = omega arith
 among_size (r ∷ rs) = omega (arith, one_size r, among_size rs, length-append (replacement_tokens r) (among replacement_tokens rs))
 
-parts_size : (rs : List Replacement) → taken_count rs + made_count rs ≤ length (parts replacement_tokens rs)
+pub parts_size : (rs : List Replacement) → taken_count rs + made_count rs ≤ length (parts replacement_tokens rs)
 parts_size [] = omega arith
 parts_size (r ∷ rs) = omega (arith, one_size r, among_size rs, length-append (replacement_tokens r) (among replacement_tokens rs))
 
