@@ -11,20 +11,26 @@ use std::{fmt, io};
 #[derive(Clone, Copy, Debug, PartialEq, Eq)]
 struct Quoted<'a>(&'a [u8]);
 
-// Whether a terminal shows the byte as it is.
-fn is_plain(b: u8) -> bool {
-    matches!(b, b' '..=b'~')
+// The characters that a terminal shows as they are, in the order of their bytes.
+const PLAIN: &str =
+    " !\"#$%&'()*+,-./0123456789:;<=>?@ABCDEFGHIJKLMNOPQRSTUVWXYZ[\\]^_`abcdefghijklmnopqrstuvwxyz{|}~";
+
+// The text of a byte, if a terminal shows it as it is: a line can have many of them, and to encode each one anew takes longer.
+fn plain(b: u8) -> Option<&'static str> {
+    let i = usize::from(b.wrapping_sub(b' '));
+    PLAIN.get(i..i + 1)
 }
 
 impl fmt::Display for Quoted<'_> {
     fn fmt<W: fmt::Write>(&self, f: &mut fmt::Formatter<W>) -> fmt::Result {
-        // plain bytes are written a run at a time, since a line can have many, and each other byte by itself
-        for run in self.0.chunk_by(|a, b| is_plain(*a) && is_plain(*b)) {
-            match run {
-                [b'\t'] => f.write_str("\\t")?,
-                [b'\r'] => f.write_str("\\r")?,
-                [other] => f.write_char(char::from(*other))?,
-                plain => f.write_str(str::from_utf8(plain).map_err(|_| fmt::Error)?)?,
+        for b in self.0 {
+            match *b {
+                b'\t' => f.write_str("\\t")?,
+                b'\r' => f.write_str("\\r")?,
+                other => match plain(other) {
+                    Some(text) => f.write_str(text)?,
+                    None => f.write_char(char::from(other))?,
+                },
             }
         }
         Ok(())
